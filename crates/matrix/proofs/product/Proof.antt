@@ -19,7 +19,8 @@ cast-bits64-2 c = widens w32 w64 tt (c .fits .b)
 
 -- the machine multiplies what it reads back from the factors' bits, which are the factors
 read : (c : tie.Start)
-    → toZ w64 (ofZ w64 (toZ w32 (ofZ w32 (c .args .a)))) *ℤ toZ w64 (ofZ w64 (toZ w32 (ofZ w32 (c .args .b)))) ≡ c .args .a *ℤ c .args .b
+    → toZ w64 (ofZ w64 (toZ w32 (ofZ w32 (c .args .a)))) *ℤ toZ w64 (ofZ w64 (toZ w32 (ofZ w32 (c .args .b))))
+    ≡ c .args .a *ℤ c .args .b
 read c = ap₂ _*ℤ_ (widened w32 w64 tt (c .fits .a)) (widened w32 w64 tt (c .fits .b))
 
 mul-bits64 : tie.Need-mul-bits64
