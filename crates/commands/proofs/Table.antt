@@ -1,5 +1,5 @@
 -- Laws of the table: from its rows to each byte. Assumes nothing.
-use mathlib.Core.Path.{_≡_, refl, sym, ap, _∙_}
+use mathlib.Core.Path.{_≡_, refl, sym, ap, ap₂, _∙_}
 use mathlib.Core.Bool.{Bool, true, false, cond, _&&_, _||_, false≢true}
 use mathlib.Core.List.{List, [], _∷_}
 use Prim.Native.Nat.{ℕ, zero, suc, _+_, _≤_, _<_}
@@ -72,6 +72,22 @@ unfolding count
 count-small b = lookup-small b .few
 
 -- ---- the 256 marks
+
+-- the one test of the whole table: entry by entry
+unfoldable pub same : List ℕ → List ℕ → Bool
+same [] [] = true
+same (x ∷ xs) (y ∷ ys) = eqb x y && same xs ys
+same [] (y ∷ ys) = false
+same (x ∷ xs) [] = false
+
+pub same-eq : (xs ys : List ℕ) → same xs ys ≡ true → xs ≡ ys
+unfolding same
+same-eq [] [] t = refl
+same-eq (x ∷ xs) (y ∷ ys) t =
+    let h = and-true (eqb x y) (same xs ys) t in
+    ap₂ (λ (a : ℕ) (l : List ℕ). a ∷ l) (eqb-true x y (h .0)) (same-eq xs ys (h .1))
+same-eq [] (y ∷ ys) t = absurd (false≢true t)
+same-eq (x ∷ xs) [] t = absurd (false≢true t)
 
 length-marks : (n b : ℕ) → length (marksFrom n b) ≡ n
 length-marks zero b = refl

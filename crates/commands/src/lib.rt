@@ -184,7 +184,7 @@ const PARAMETERS: [u8; 256] = [
     UNKNOWN,
     UNKNOWN,
     UNKNOWN,
-    UNKNOWN,
+    UNKNOWN, // 9fh
     // a0h
     UNKNOWN,
     UNKNOWN,

@@ -80,5 +80,7 @@ pub fn field16(word: u32, at: u32) -> i16
 pub fn add16(x: i16, y: i16) -> i16
     ensures { λ r. ⌜ r ≡ signedLow 16 (x +ℤ y) ⌝ }
 {
-    low16(wrapping_add_u32(bits32(x as i32), bits32(y as i32)))
+    let a = bits32(x as i32);
+    let b = bits32(y as i32);
+    low16(wrapping_add_u32(a, b))
 }
