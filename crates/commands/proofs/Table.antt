@@ -11,7 +11,7 @@ use borrow.Author.Tests.{leb-true, eqb-true, ne-eqb}
 use Rattle.commands.specs.declared.Count.{Count}
 use Rattle.commands.specs.declared.Count.the-variants.{Takes, Unknown}
 use Rattle.commands.specs.Commands.{CommandRow, commandRows, among, find, lookup, mark, marksFrom, parameterTable}
-use Rattle.commands.specs.Commands.{isCommand, parametersOf, known, count}
+use Rattle.commands.specs.Commands.{isCommand, parameterCount, known, count}
 
 -- ---- each row has bytes from 1 to 255 and at most 32 parameters, by one computed test over the rows
 
@@ -43,7 +43,7 @@ among-within b (c ∷ cs) w e =
 -- what is said of a byte and its count
 record Small (b : ℕ) (n : Count) : Type 0 where
   range : isCommand n ≡ true → (1 ≤ b) × (b < 256)
-  few : parametersOf n ≤ 32
+  few : parameterCount n ≤ 32
 
 find-small : (rs : List CommandRow) (b : ℕ) → small rs ≡ true → Small b (find rs b)
 unfolding small
@@ -115,6 +115,6 @@ unmark n = cond (eqb n 255) Unknown (Takes n)
 pub unmark-lookup : (b : ℕ) → unmark (mark (lookup b)) ≡ lookup b
 unmark-lookup b = by (lookup b) (lookup-small b .few)
   where
-    by : (n : Count) → parametersOf n ≤ 32 → unmark (mark n) ≡ n
+    by : (n : Count) → parameterCount n ≤ 32 → unmark (mark n) ≡ n
     by (Takes n) h = rw (ne-eqb n 255 (λ e. omega arith))
     by Unknown h = refl

@@ -63,9 +63,9 @@ abbrev pub isCommand : Count → Bool
 isCommand (Takes n) = true
 isCommand Unknown = false
 
-abbrev pub parametersOf : Count → ℕ
-parametersOf (Takes n) = n
-parametersOf Unknown = 0
+abbrev pub parameterCount : Count → ℕ
+parameterCount (Takes n) = n
+parameterCount Unknown = 0
 
 -- document 01: "These 37 are known."
 unfoldable pub known : ℕ → Bool
@@ -73,7 +73,7 @@ known b = isCommand (lookup b)
 
 -- the number of parameters, 0 for a byte that is no command
 unfoldable pub count : ℕ → ℕ
-count b = parametersOf (lookup b)
+count b = parameterCount (lookup b)
 
 -- document 01, Ports: "Command c has port 04000400h + 4c."
 unfoldable pub port : ℕ → ℕ
