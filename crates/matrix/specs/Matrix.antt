@@ -27,16 +27,17 @@ column x y z w m j = entry x y z w (at m j) (at m (4 + j)) (at m (8 + j)) (at m 
 unfoldable pub rowBy : ℤ → ℤ → ℤ → ℤ → List ℤ → List ℤ
 rowBy x y z w m = column x y z w m 0 ∷ column x y z w m 1 ∷ column x y z w m 2 ∷ column x y z w m 3 ∷ []
 
--- the entry of m × c in row i and column j
-abbrev pub cell : List ℤ → List ℤ → ℕ → ℕ → ℤ
-cell m c i j = column (at m (4 * i)) (at m (4 * i + 1)) (at m (4 * i + 2)) (at m (4 * i + 3)) c j
-
-abbrev row : List ℤ → List ℤ → ℕ → List ℤ
-row m c i = cell m c i 0 ∷ cell m c i 1 ∷ cell m c i 2 ∷ cell m c i 3 ∷ []
+-- row i of m × c: row i of m, × c
+abbrev rowOf : List ℤ → List ℤ → ℕ → List ℤ
+rowOf m c i = rowBy (at m (4 * i)) (at m (4 * i + 1)) (at m (4 * i + 2)) (at m (4 * i + 3)) c
 
 -- m × c. Document 01: "A multiply sets C = M × C"
 unfoldable pub mul : List ℤ → List ℤ → List ℤ
-mul m c = row m c 0 ++ row m c 1 ++ row m c 2 ++ row m c 3
+mul m c = rowOf m c 0 ++ rowOf m c 1 ++ rowOf m c 2 ++ rowOf m c 3
+
+-- and its entry in column j
+abbrev pub cell : List ℤ → List ℤ → ℕ → ℕ → ℤ
+cell m c i j = column (at m (4 * i)) (at m (4 * i + 1)) (at m (4 * i + 2)) (at m (4 * i + 3)) c j
 
 -- 1.0
 abbrev pub one : ℤ

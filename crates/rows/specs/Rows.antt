@@ -9,7 +9,7 @@ use lib.ListN.{set}
 use Rattle.lowbits.specs.Bits.{floorBits, lowBits, asSigned}
 use Rattle.commands.specs.declared.Count.the-variants.{Takes, Unknown}
 use Rattle.commands.specs.Commands.{commandRows, lookup, known}
-use Rattle.matrix.specs.Matrix.{entry, mul, unit, scaleMatrix, at, one}
+use Rattle.matrix.specs.Matrix.{entry, rowBy, mul, unit, scaleMatrix, at, one}
 
 pub record WorkedRow : Type 1 where
   pub Kind : Type 0
@@ -45,5 +45,5 @@ workedRows =
     ∷ []
 
 pub worked : AllHold workedRows
-unfolding commandRows lookup known floorBits lowBits asSigned entry mul unit scaleMatrix
+unfolding commandRows lookup known floorBits lowBits asSigned entry rowBy mul unit scaleMatrix
 worked = (refl, (refl, (refl, tt)))

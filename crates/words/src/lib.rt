@@ -27,6 +27,7 @@ fn put_word(buffer: &mut [u8], at: usize, w: u32)
     buffer[at + 3] = (w3 % 256) as u8;
 }
 
+// The lesser of two numbers.
 fn least(a: usize, b: usize) -> usize
     ensures { λ r. ⌜ r ≡ min a b ⌝ }
 {
