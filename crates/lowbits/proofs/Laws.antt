@@ -211,12 +211,6 @@ pub floor-none : (j k n : ℕ) → n < 2 ^ j → j ≤ k → floorBits k (pos n)
 unfolding floorBits
 floor-none j k n h l = ap pos (div-eq-of-lt (lt-of-lt-of-le h (pow-mono l)))
 
--- so a field there reads 0
-pub field-none : (j at k n : ℕ) → n < 2 ^ j → j ≤ at → signedLow k (floorBits at (pos n)) ≡ pos 0
-unfolding lowBits
-field-none j at k n h l =
-    ap (signedLow k) (floor-none j at n h l) ∙ ap (asSigned k) (mod-eq-of-lt (pow-pos k)) ∙ signed-lower k 0 (pow-pos k)
-
 -- ---- the size of a product
 
 mag-neg : (x : ℕ) → mag (negℤ (pos x)) ≤ x

@@ -62,18 +62,25 @@ pub fn low32(x: u64) -> i32
     }
 }
 
-// The signed field of 10 bits of a word, from bit `at` on; past bit 31 a word has only zeros.
+// The bits of a word from bit `at` on; past bit 31 a word has only zeros.
+fn bits_from(word: u32, at: u32) -> u32
+    ensures { λ r. ⌜ pos r ≡ floorBits at (pos word) ⌝ }
+{
+    if at < 32 { word >> at } else { 0 }
+}
+
+// The signed field of 10 bits of a word, from bit `at` on.
 pub fn field10(word: u32, at: u32) -> i16
     ensures { λ r. ⌜ r ≡ signedLow 10 (floorBits at (pos word)) ⌝ }
 {
-    if at < 32 { low10(word >> at) } else { 0 }
+    low10(bits_from(word, at))
 }
 
 // The signed field of 16 bits of a word, from bit `at` on.
 pub fn field16(word: u32, at: u32) -> i16
     ensures { λ r. ⌜ r ≡ signedLow 16 (floorBits at (pos word)) ⌝ }
 {
-    if at < 32 { low16(word >> at) } else { 0 }
+    low16(bits_from(word, at))
 }
 
 // A sum, its low 16 bits kept as a signed number.
