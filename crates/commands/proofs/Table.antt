@@ -6,7 +6,7 @@ use Prim.Native.Nat.{ℕ, zero, suc, _+_, _≤_, _<_}
 use native.Mathlib.Nat.{add-zero}
 use native.Mathlib.Omega.{arith}
 use lib.Dec.{leb, eqb}
-use lib.ListN.{length, getD}
+use lib.ListN.{getD}
 use borrow.Author.Tests.{leb-true, eqb-true, ne-eqb}
 use Rattle.commands.specs.declared.Count.{Count}
 use Rattle.commands.specs.declared.Count.the-variants.{Takes, Unknown}
@@ -89,19 +89,11 @@ same-eq (x ∷ xs) (y ∷ ys) t =
 same-eq [] (y ∷ ys) t = absurd (false≢true t)
 same-eq (x ∷ xs) [] t = absurd (false≢true t)
 
-length-marks : (n b : ℕ) → length (marksFrom n b) ≡ n
-length-marks zero b = refl
-length-marks (suc n) b = ap suc (length-marks n (suc b))
-
 marks-at : (n b k d : ℕ) → k < n → getD (marksFrom n b) k d ≡ mark (lookup (b + k))
 marks-at zero b k d h = absurd (omega arith)
 marks-at (suc n) b zero d h = ap (λ (x : ℕ). mark (lookup x)) (sym (add-zero b))
 marks-at (suc n) b (suc k) d h =
     marks-at n (suc b) k d (omega arith) ∙ ap (λ (x : ℕ). mark (lookup x)) (omega arith)
-
-pub length-table : length parameterTable ≡ 256
-unfolding parameterTable
-length-table = length-marks 256 0
 
 -- the law that carries the table to each byte
 pub table-at : (b d : ℕ) → b < 256 → getD parameterTable b d ≡ mark (lookup b)
