@@ -1,13 +1,13 @@
 -- Laws of the commands: ports and addresses, and bytes that are no command. Assumes nothing.
-use mathlib.Core.Path.{_≡_, refl, sym, ap, _∙_}
 use mathlib.Core.Bool.{Bool, true, false, cond, not, _&&_, _||_, false≢true}
 use mathlib.Core.List.{List, [], _∷_}
+use mathlib.Core.Path.{_≡_, refl, sym, ap, _∙_}
 use Prim.Native.Nat.{ℕ, _+_, _*_, _-_, _/_, _%_, _≤_, _<_}
 use native.Mathlib.Omega.{arith}
 use lib.Dec.{eqb}
 use lib.ListN.{length, getD}
 use borrow.Author.Tests.{eqb-true, eq-eqb, ne-eqb}
-use Rattle.commands.specs.Commands.{known, port, counted, commandAt, hole}
+use Rattle.commands.specs.Commands.{known, port, counted, commandAt, commandBytes, hole}
 use Rattle.commands.proofs.Table.{known-range}
 
 -- ---- a byte as a command
@@ -27,6 +27,10 @@ counted-far b h = by (known b) refl
     by : (t : Bool) → known b ≡ t → counted b ≡ 0
     by true e = absurd (omega (arith, known-range b e))
     by false e = counted-unknown b e
+
+pub length-commandBytes : (w : ℕ) → length (commandBytes w) ≡ 4
+unfolding commandBytes
+length-commandBytes w = refl
 
 -- ---- the command of an address
 

@@ -2,18 +2,18 @@
 -- The low k bits of -(n + 1) are those of the natural number (n + 1) * (2 ^ k - 1), since 2 ^ k - 1 stands for -1
 -- (`neg-low`). So the laws of sums and products are laws of remainders in ℕ, and `+ℤ` and `*ℤ` are taken apart by
 -- sign only here.
-use mathlib.Core.Path.{_≡_, refl, sym, _∙_, ap, ap₂, subst}
 use mathlib.Core.Bool.{Bool, true, false, not, cond}
+use mathlib.Core.Path.{_≡_, refl, sym, _∙_, ap, ap₂, subst}
 use Prim.Native.Nat.{ℕ, zero, suc, _+_, _-_, _*_, _/_, _%_, _^_, _≤_, _<_}
 use native.Mathlib.Nat.{le-refl, lt-of-le-of-lt, mul-le-mul, lt-of-lt-of-le, div-eq-of-lt, mod-lt, mod-eq-of-lt}
 use native.Mathlib.Nat.{add-mod, add-mul-mod-self-right, div-add-mod', suc-mul, mul-suc, add-mul, mul-assoc, mul-comm}
 use native.Mathlib.Nat.{mul-mul-mul-comm, zero-mul}
 use native.Mathlib.Omega.{arith}
-use lib.IntN.{ℤ, pos, negsuc, negℤ, natAbs, subℕ, _+ℤ_, _*ℤ_}
+use lib.Arith.{digits-div, digits-mod}
 use lib.Dec.{T, ltb, ltb→lt, nltb→le}
+use lib.IntN.{ℤ, pos, negsuc, negℤ, natAbs, subℕ, _+ℤ_, _*ℤ_}
 use lib.Pow.{pow-pos, pow-mono, field, mod-pow-add, mod-mod-pow, pow-add, pow-lt, suc-ones}
 use lib.Signed.{mag, natAbs-le}
-use lib.Arith.{digits-div, digits-mod}
 use borrow.Author.Tests.{lt-ltb, le-ltb}
 use Rattle.lowbits.specs.Bits.{floorBits, lowBits, asSigned, signedLow, InSigned}
 

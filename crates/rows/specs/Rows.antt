@@ -1,8 +1,8 @@
 -- Document 01, "Rows to check", those marked P: what the definitions give, beside what the row says. One claim covers
 -- the table, and each of its rows holds by computing the definitions. Assumes nothing.
-use mathlib.Core.Path.{_≡_, refl}
 use mathlib.Core.Bool.{cond}
 use mathlib.Core.List.{List, [], _∷_, map}
+use mathlib.Core.Path.{_≡_, refl}
 use Prim.Native.Nat.{ℕ, zero, suc}
 use lib.IntN.{ℤ, pos, negsuc}
 use lib.ListN.{set}

@@ -1,0 +1,4 @@
+pub mod With
+pub mod Mode
+pub mod Fresh
+pub mod Sound

@@ -1,0 +1,72 @@
+-- Parts of the record with one field changed, and what calls answer. Assumes nothing.
+use mathlib.Core.Bool.{true}
+use mathlib.Core.List.{List}
+use Prim.Native.Nat.{ℕ}
+use lib.IntN.{ℤ}
+use Rattle.state.specs.declared.Pair.{Pair}
+use Rattle.state.specs.declared.Single.{Single}
+use Rattle.state.specs.declared.Transform.{Transform}
+use Rattle.state.specs.declared.Matrices.{Matrices}
+use Rattle.state.specs.declared.Geometry.{Geometry}
+use Rattle.state.specs.declared.Engine.{Engine}
+use Rattle.state.specs.declared.Answer.{Answer}
+
+-- ---- the matrices
+
+abbrev pub withPosition : Pair → List ℤ → Pair
+withPosition p m = record { position = m; vector = p .vector; level = p .level }
+
+abbrev pub withVector : Pair → List ℤ → Pair
+withVector p m = record { position = p .position; vector = m; level = p .level }
+
+abbrev pub withMatrix : Single → List ℤ → Single
+withMatrix s m = record { matrix = m; slot = s .slot; level = s .level }
+
+abbrev pub withPair : Transform → Pair → Transform
+withPair t p = record { pair = p; projection = t .projection; texture = t .texture; mode = t .mode; error = t .error }
+
+abbrev pub withProjection : Transform → Single → Transform
+withProjection t s = record { pair = t .pair; projection = s; texture = t .texture; mode = t .mode; error = t .error }
+
+abbrev pub withTexture : Transform → Single → Transform
+withTexture t s = record { pair = t .pair; projection = t .projection; texture = s; mode = t .mode; error = t .error }
+
+abbrev pub withMode : Transform → ℕ → Transform
+withMode t n = record { pair = t .pair; projection = t .projection; texture = t .texture; mode = n; error = t .error }
+
+-- the error flag is set, and nothing else is changed
+abbrev pub failed : Transform → Transform
+failed t = record { pair = t .pair; projection = t .projection; texture = t .texture; mode = t .mode; error = true }
+
+abbrev pub withTransform : Matrices → Transform → Matrices
+withTransform m t = record { transform = t; stacks = m .stacks }
+
+-- ---- the engine
+
+abbrev pub withMatrices : Engine → Matrices → Engine
+withMatrices e m = record { core = record { matrices = m; geometry = e .core .geometry }; stream = e .stream }
+
+abbrev pub withGeometry : Engine → Geometry → Engine
+withGeometry e g = record { core = record { matrices = e .core .matrices; geometry = g }; stream = e .stream }
+
+-- the same engine with these rooms
+unfoldable pub withRooms : Engine → ℕ → ℕ → Engine
+withRooms e vertices polygons =
+    let g : Geometry = e .core .geometry in
+    withGeometry e
+    (record {
+      colour = g .colour;
+      given = g .given;
+      attributes = g .attributes;
+      position = g .position;
+      waiting = g .waiting;
+      used = g .used;
+      rooms = record { vertices = vertices; polygons = polygons };
+      overflow = g .overflow;
+    })
+
+-- ---- what a call answers
+
+-- a number and an engine; document 01: "The answer carries a place [..] otherwise 0."
+abbrev pub answered : ℕ → Engine → Answer
+answered n e = record { number = n; place = 0; engine = e }

@@ -1,0 +1,417 @@
+// The engine's record, by value: the core, which is all that demand 3 compares with the rooms beside it, and the command
+// stream. Here are the fresh engine, the start and the test that a record is sound.
+ghost use mathlib.Core.Path.{_≡_};
+ghost use mathlib.Core.Bool.{cond};
+ghost use lib.Dec.{eqb};
+ghost use Rattle.commands.specs.Commands.{parameterTable};
+ghost use Rattle.state.specs.With.{withRooms, answered};
+ghost use Rattle.state.specs.Mode.{usesPair, single, withSingle};
+ghost use Rattle.state.specs.Fresh.{freshTransform, freshGeometry, freshStream, fresh, start};
+ghost use Rattle.state.specs.Fresh.{roomAllowed, roomsAllowed};
+ghost use Rattle.state.specs.Sound.{soundTransform, isClosed, needed, coloured, soundWaiting, soundGeometry};
+ghost use Rattle.state.specs.Sound.{soundCore, soundStream, sound};
+use commands::command_bytes_in;
+use commands::count_in;
+use commands::has_hole;
+use commands::parameter_table;
+use matrix::Matrix;
+
+// Position and vector: the current matrices, and the level that their two stacks share.
+pub struct Pair {
+    pub position: [i32; 16],
+    pub vector: [i32; 16],
+    pub level: usize,
+}
+
+// Projection or texture: the current matrix, and its stack of one slot.
+pub struct Single {
+    pub matrix: [i32; 16],
+    pub slot: [i32; 16],
+    pub level: usize,
+}
+
+// The matrices without the two long stacks. `mode` is what 10h set, `error` the error flag of the stacks.
+pub struct Transform {
+    pub pair: Pair,
+    pub projection: Single,
+    pub texture: Single,
+    pub mode: u32,
+    pub error: bool,
+}
+
+// The stacks of position and vector, 31 slots each. Slot k is the sixteen numbers from 16 * k on. Only the stack commands
+// touch them.
+pub struct Stacks {
+    pub positions: [i32; 496],
+    pub vectors: [i32; 496],
+}
+
+pub struct Matrices {
+    pub transform: Transform,
+    pub stacks: Stacks,
+}
+
+// The vertex position.
+pub struct Coordinates {
+    pub x: i16,
+    pub y: i16,
+    pub z: i16,
+}
+
+// A vertex as the caller's buffer holds it: X, Y, Z, W and colour.
+pub type VertexRecord = [i32; 5];
+
+// The list that 40h opened. A triangle strip keeps whether its next k is odd; for every other kind, and when closed, this
+// reads even.
+pub enum OpenList {
+    Closed,
+    Triangles,
+    Quads,
+    TriangleStrip(bool),
+    QuadStrip,
+}
+
+// The open list, and the vertices that wait for its next polygon: the first `count` of three. Those past the count are
+// free: nothing reads them.
+pub struct Waiting {
+    pub list: OpenList,
+    pub first: VertexRecord,
+    pub second: VertexRecord,
+    pub third: VertexRecord,
+    pub count: usize,
+}
+
+// Numbers of vertices and polygons.
+pub struct Counts {
+    pub vertices: usize,
+    pub polygons: usize,
+}
+
+// `given` are the attributes last given by 29h, `attributes` those in force; `used` says how many records the caller's
+// buffers hold, `rooms` (document 01's word for the capacities) how many they may hold.
+pub struct Geometry {
+    pub colour: u32,
+    pub given: u32,
+    pub attributes: u32,
+    pub position: Coordinates,
+    pub waiting: Waiting,
+    pub used: Counts,
+    pub rooms: Counts,
+    pub overflow: bool,
+}
+
+// What the two sides of demand 3 are compared in, and the rooms.
+pub struct Core {
+    pub matrices: Matrices,
+    pub geometry: Geometry,
+}
+
+// The command stream between two calls. `queue` is the rest of the packed command word, its next command lowest; `held`
+// has the parameters so far of that command, or of the port command that is pending: the first `count` of 32. Those past
+// the count are free: nothing reads them. `dummy`: the dummy word is due; `port`: the port command pending, 0 for none.
+pub struct Stream {
+    pub queue: u32,
+    pub held: [u32; 32],
+    pub count: usize,
+    pub dummy: bool,
+    pub port: u8,
+}
+
+pub struct Engine {
+    pub core: Core,
+    pub stream: Stream,
+}
+
+// What a call that gives an engine answers: 0, or the number that it refuses with; a place; the engine.
+pub struct Answer {
+    pub number: u32,
+    pub place: u32,
+    pub engine: Engine,
+}
+
+fn fresh_transform() -> Transform
+    ensures { λ r. ⌜ r ≡ freshTransform ⌝ }
+{
+    let unit = Matrix::UNIT;
+    let pair = Pair {
+        position: unit,
+        vector: unit,
+        level: 0,
+    };
+    let projection = Single {
+        matrix: unit,
+        slot: [0; 16],
+        level: 0,
+    };
+    let texture = projection;
+    Transform {
+        pair: pair,
+        projection: projection,
+        texture: texture,
+        mode: 0,
+        error: false,
+    }
+}
+
+fn fresh_geometry() -> Geometry
+    ensures { λ r. ⌜ r ≡ freshGeometry ⌝ }
+{
+    let position = Coordinates { x: 0, y: 0, z: 0 };
+    let waiting = Waiting {
+        list: OpenList::Closed,
+        first: [0; 5],
+        second: [0; 5],
+        third: [0; 5],
+        count: 0,
+    };
+    let used = Counts {
+        vertices: 0,
+        polygons: 0,
+    };
+    let rooms = Counts {
+        vertices: 1,
+        polygons: 1,
+    };
+    Geometry {
+        colour: 0,
+        given: 0,
+        attributes: 0,
+        position: position,
+        waiting: waiting,
+        used: used,
+        rooms: rooms,
+        overflow: false,
+    }
+}
+
+fn fresh_stream() -> Stream
+    ensures { λ r. ⌜ r ≡ freshStream ⌝ }
+{
+    Stream {
+        queue: 0,
+        held: [0; 32],
+        count: 0,
+        dummy: false,
+        port: 0,
+    }
+}
+
+// A room is from 1 to its limit.
+fn room_allowed(limit: usize, n: usize) -> bool
+    ensures { λ r. ⌜ r ≡ roomAllowed limit n ⌝ }
+{
+    (1 <= n) & (n <= limit)
+}
+
+fn rooms_allowed(vertices: usize, polygons: usize) -> bool
+    ensures { λ r. ⌜ r ≡ roomsAllowed vertices polygons ⌝ }
+{
+    room_allowed(6144, vertices) & room_allowed(2048, polygons)
+}
+
+fn with_rooms(e: Engine, vertices: usize, polygons: usize) -> Engine
+    ensures { λ r. ⌜ r ≡ withRooms e vertices polygons ⌝ }
+{
+    let rooms = Counts {
+        vertices: vertices,
+        polygons: polygons,
+    };
+    let mut geometry = e.core.geometry;
+    geometry.rooms = rooms;
+    let mut core = e.core;
+    core.geometry = geometry;
+    let mut n = e;
+    n.core = core;
+    n
+}
+
+impl Engine {
+    // The fresh engine, with rooms 1 and 1.
+    pub fn fresh() -> Engine
+        ensures { λ r. ⌜ r ≡ fresh ⌝ }
+    {
+        let transform = fresh_transform();
+        let stacks = Stacks {
+            positions: [0; 496],
+            vectors: [0; 496],
+        };
+        let matrices = Matrices {
+            transform: transform,
+            stacks: stacks,
+        };
+        let geometry = fresh_geometry();
+        let core = Core {
+            matrices: matrices,
+            geometry: geometry,
+        };
+        let stream = fresh_stream();
+        Engine {
+            core: core,
+            stream: stream,
+        }
+    }
+
+    // The fresh engine with these rooms: 1 to 6,144 vertices and 1 to 2,048 polygons.
+    pub fn start(vertices: usize, polygons: usize) -> Answer
+        ensures { λ r. ⌜ r ≡ start vertices polygons ⌝ }
+    {
+        let engine = Engine::fresh();
+        if rooms_allowed(vertices, polygons) {
+            answered(0, with_rooms(engine, vertices, polygons))
+        } else {
+            answered(11, engine)
+        }
+    }
+}
+
+// What a call that lends no buffer answers: its place is 0.
+pub fn answered(number: u32, engine: Engine) -> Answer
+    ensures { λ r. ⌜ r ≡ answered number engine ⌝ }
+{
+    Answer {
+        number: number,
+        place: 0,
+        engine: engine,
+    }
+}
+
+// Modes 1 and 2 use position and vector.
+pub fn uses_pair(mode: u32) -> bool
+    ensures { λ r. ⌜ r ≡ usesPair mode ⌝ }
+{
+    (mode == 1) | (mode == 2)
+}
+
+// In the other modes, the matrix that the mode names: texture in mode 3, else projection.
+pub fn single_of(t: Transform) -> Single
+    ensures { λ r. ⌜ r ≡ single t ⌝ }
+{
+    if t.mode == 3 { t.texture } else { t.projection }
+}
+
+pub fn with_single(t: Transform, s: Single) -> Transform
+    ensures { λ r. ⌜ r ≡ withSingle t s ⌝ }
+{
+    let mut n = t;
+    if t.mode == 3 {
+        n.texture = s;
+        n
+    } else {
+        n.projection = s;
+        n
+    }
+}
+
+fn is_sound_transform(t: Transform) -> bool
+    ensures { λ r. ⌜ r ≡ soundTransform t ⌝ }
+{
+    (t.mode <= 3) & (t.pair.level <= 31) & (t.projection.level <= 1) & (t.texture.level <= 1)
+}
+
+// No list is open.
+pub fn is_closed(list: OpenList) -> bool
+    ensures { λ r. ⌜ r ≡ isClosed list ⌝ }
+{
+    match list {
+        OpenList::Closed => true,
+        OpenList::Triangles => false,
+        OpenList::Quads => false,
+        OpenList::TriangleStrip(_) => false,
+        OpenList::QuadStrip => false,
+    }
+}
+
+// How many vertices make a polygon of the list; a closed list makes none.
+pub fn needed_by(list: OpenList) -> usize
+    ensures { λ r. ⌜ r ≡ needed list ⌝ }
+{
+    match list {
+        OpenList::Closed => 0,
+        OpenList::Triangles => 3,
+        OpenList::Quads => 4,
+        OpenList::TriangleStrip(_) => 3,
+        OpenList::QuadStrip => 4,
+    }
+}
+
+// The vertex's colour is one.
+fn is_coloured(v: VertexRecord) -> bool
+    ensures { λ r. ⌜ r ≡ coloured v ⌝ }
+{
+    let z = v[4];
+    (0 <= z) & (z < 32768)
+}
+
+fn is_sound_waiting(w: Waiting) -> bool
+    ensures { λ r. ⌜ r ≡ soundWaiting w ⌝ }
+{
+    let list = w.list;
+    let n = w.count;
+    let first = w.first;
+    let second = w.second;
+    let third = w.third;
+    ((is_closed(list) & (n == 0)) | (n < needed_by(list)))
+        & ((n <= 0) | is_coloured(first))
+        & ((n <= 1) | is_coloured(second))
+        & ((n <= 2) | is_coloured(third))
+}
+
+fn is_sound_geometry(g: Geometry) -> bool
+    ensures { λ r. ⌜ r ≡ soundGeometry g ⌝ }
+{
+    let w = g.waiting;
+    (g.colour < 32768)
+        & is_sound_waiting(w)
+        & rooms_allowed(g.rooms.vertices, g.rooms.polygons)
+        & (g.used.vertices <= g.rooms.vertices)
+        & (g.used.polygons <= g.rooms.polygons)
+}
+
+fn is_sound_core(c: Core) -> bool
+    ensures { λ r. ⌜ r ≡ soundCore c ⌝ }
+{
+    let m = c.matrices;
+    let t = m.transform;
+    let g = c.geometry;
+    is_sound_transform(t) & is_sound_geometry(g)
+}
+
+// The command that the held parameters belong to: the next one of the queue, else the port's.
+fn first_of(next: u8, port: u8) -> u8
+    ensures { λ r. ⌜ r ≡ cond (eqb next 0) port next ⌝ }
+{
+    if next == 0 { port } else { next }
+}
+
+fn is_sound_stream(table: &[u8; 256], s: Stream) -> bool
+    requires { ⌜ now table ≡ parameterTable ⌝ }
+    ensures { λ r. ⌜ r ≡ soundStream s ⌝ }
+{
+    let bytes = command_bytes_in(table, s.queue);
+    let next = bytes[0];
+    let port = s.port;
+    let held = s.count;
+    let n = count_in(table, first_of(next, port));
+    !has_hole(bytes)
+        & ((held < n) | ((next == 0) & (port == 0) & (held == 0)))
+        & (!s.dummy | (next == 0))
+        & (((next == 0) & !s.dummy) | (port == 0))
+}
+
+// Whether the record is sound, by a table that was laid out before. For the crates above this one.
+pub fn is_sound_in(table: &[u8; 256], e: Engine) -> bool
+    requires { ⌜ now table ≡ parameterTable ⌝ }
+    ensures { λ r. ⌜ r ≡ sound e ⌝ }
+{
+    let c = e.core;
+    let s = e.stream;
+    is_sound_core(c) & is_sound_stream(table, s)
+}
+
+// Whether the record is sound.
+pub fn is_sound(e: Engine) -> bool
+    ensures { λ r. ⌜ r ≡ sound e ⌝ }
+{
+    let table = parameter_table();
+    is_sound_in(&table, e)
+}
