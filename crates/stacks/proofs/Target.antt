@@ -1,12 +1,12 @@
 -- Pop's T from numbers that are not negative: with b = N + 32, T = S + 32 - b. Assumes nothing.
+use mathlib.Core.Bool.{Bool, true, false}
 use mathlib.Core.Path.{_≡_, refl, sym, ap, _∙_}
-use mathlib.Core.Bool.{Bool, true, false, cond}
-use Prim.Native.Nat.{ℕ, zero, suc, _+_, _-_, _*_, _%_, _^_, _≤_, _<_}
+use Prim.Native.Nat.{ℕ, zero, suc, _+_, _-_, _%_, _≤_, _<_}
 use native.Mathlib.Omega.{arith}
 use lib.Dec.{ltb}
-use lib.IntN.{ℤ, pos, negsuc, negℤ, subℕ, _+ℤ_, _-ℤ_}
+use lib.IntN.{ℤ, pos, negsuc, _-ℤ_}
 use borrow.Author.Tests.{lt-ltb, le-ltb, ltb-true, ltb-false, le-leb, lt-leb}
-use Rattle.lowbits.specs.Bits.{lowBits, asSigned, signedLow}
+use Rattle.lowbits.specs.Bits.{lowBits, signedLow}
 use Rattle.lowbits.proofs.Laws.{signed-lower, signed-upper}
 use Rattle.state.specs.declared.Matrices.{Matrices}
 use Rattle.state.specs.With.{withTransform, failed}

@@ -7,7 +7,6 @@ use lib.IntN.{ℤ, pos, negsuc, _-ℤ_}
 use Rattle.lowbits.specs.Bits.{signedLow}
 use Rattle.state.specs.declared.Pair.{Pair}
 use Rattle.state.specs.declared.Single.{Single}
-use Rattle.state.specs.declared.Transform.{Transform}
 use Rattle.state.specs.declared.Stacks.{Stacks}
 use Rattle.state.specs.declared.Matrices.{Matrices}
 use Rattle.state.specs.With.{withPair, withTransform, failed}

@@ -1,1 +1,2 @@
 pub mod StreamTest
+pub mod SoundLaws

@@ -1,55 +1,42 @@
-use mathlib.Core.Path.{_≡_, sym, ap, _∙_}
+-- `stacks::pop_pair` meets its contract. Assumes nothing.
+use mathlib.Core.Path.{sym, ap, _∙_}
 use Prim.Native.Nat.{ℕ, _+_, _-_}
+use borrow.Author.Needs.{needs}
 use Rattle.stacks.specs.Stack.{level}
 use Rattle.stacks.proofs.Target.{pop-below, pop-above, pop-at}
-use native.Mathlib.Omega.{arith}
-use borrow.Author.Needs.{needs}
 use Rattle.stacks.proofs.pop_pair.Statement.{statement}
 use Rattle.stacks.proofs.pop_pair.Tie as tie
-use Rattle.stacks.proofs.pop_pair.Reads as reads
-use Rattle.stacks.proofs.pop_pair.Lts as lts
-use Rattle.stacks.proofs.bias.Reads as bias-reads
-use Rattle.stacks.proofs.fail.Reads as fail-reads
-use Rattle.stacks.proofs.load_both.Reads as load-both-reads
 
--- src/lib.rt:134:13
 add-s : tie.Need-add-s
 add-s c = search needs
 
--- src/lib.rt:135:9
 bias-requires : tie.Need-bias-requires
 bias-requires c κs = search needs
 
--- src/lib.rt:137:9
 fail-requires : tie.Need-fail-requires
 fail-requires c κs = search needs
 
--- src/lib.rt:137:9
 returns : tie.Need-returns
-returns c = 
+returns c =
     let a = c .before .before .before .before .before .args in
     let b = c .before .before .bias .ensures in
     c .fail .ensures ∙ sym (pop-below (a .m) (a .p) (rw (sym b) (c .before .if1 .taken)))
 
--- src/lib.rt:141:9
 fail-requires-2 : tie.Need-fail-requires-2
 fail-requires-2 c κs = search needs
 
--- src/lib.rt:141:9
 returns-2 : tie.Need-returns-2
-returns-2 c = 
+returns-2 c =
     let a = c .before .before .before .before .before .before .args in
     let b = c .before .before .before .bias .ensures in
     c .fail2 .ensures
     ∙ sym (pop-above (a .m) (a .p) (rw (sym b) (c .before .before .if1 .left)) (rw (sym b) (c .before .if2 .taken)))
 
--- src/lib.rt:143:5
 load-both-requires : tie.Need-load-both-requires
 load-both-requires c κs = search needs
 
--- src/lib.rt:129:1
 returns-3 : tie.Need-returns-3
-returns-3 c = 
+returns-3 c =
     let a = c .before .before .before .before .before .before .args in
     let b = c .before .before .before .bias .ensures in
     c .load-both .ensures

@@ -1,0 +1,125 @@
+-- Laws of soundness: the ranges of the transform part, the parts of a sound record, and that a start gives a sound one.
+-- Assumes nothing.
+use mathlib.Core.Bool.{Bool, true, false, cond, and-eq-true-iff}
+use mathlib.Core.Path.{_≡_, refl}
+use Prim.Native.Nat.{ℕ, _≤_}
+use native.Mathlib.Omega.{arith}
+use lib.Dec.{eqb}
+use borrow.Author.Tests.{leb-true, le-leb}
+use Rattle.commands.specs.Commands.{commandRows, lookup, known, counted, commandBytes}
+use Rattle.stream.specs.Pending.{commandsOf, soundPending}
+use Rattle.state.specs.declared.Pair.{Pair}
+use Rattle.state.specs.declared.Single.{Single}
+use Rattle.state.specs.declared.Transform.{Transform}
+use Rattle.state.specs.declared.Matrices.{Matrices}
+use Rattle.state.specs.declared.Geometry.{Geometry}
+use Rattle.state.specs.declared.Engine.{Engine}
+use Rattle.state.specs.declared.Answer.{Answer}
+use Rattle.state.specs.With.{withPair, withProjection, withTexture, failed, withMatrices, withGeometry, withRooms}
+use Rattle.state.specs.With.{answered}
+use Rattle.state.specs.Mode.{single, withSingle}
+use Rattle.state.specs.Fresh.{freshTransform, freshGeometry, freshStream, fresh, roomsAllowed, start}
+use Rattle.state.specs.Sound.{soundTransform, soundWaiting, soundGeometry, soundCore, pendingOf, soundStream}
+use Rattle.state.specs.Sound.{sound}
+
+-- what holds in each case holds of the choice
+pub cond-case : {A : Type 0} (P : A → Type 0) (b : Bool) (x y : A) → (b ≡ true → P x) → (b ≡ false → P y)
+    → P (cond b x y)
+cond-case P true x y f g = f refl
+cond-case P false x y f g = g refl
+
+-- ---- the transform part
+
+pub record Ranges (t : Transform) : Type 0 where
+  pub mode : t .mode ≤ 3
+  pub level : t .pair .level ≤ 31
+  pub projection : t .projection .level ≤ 1
+  pub texture : t .texture .level ≤ 1
+
+pub ranges : (t : Transform) → soundTransform t ≡ true → Ranges t
+unfolding soundTransform
+ranges t e =
+    let abc = and-eq-true-iff _ _ .0 e in
+    let ab = and-eq-true-iff _ _ .0 (abc .0) in
+    let a = and-eq-true-iff _ _ .0 (ab .0) in
+    record {
+      mode = leb-true _ _ (a .0);
+      level = leb-true _ _ (a .1);
+      projection = leb-true _ _ (ab .1);
+      texture = leb-true _ _ (abc .1);
+    }
+
+pub in-ranges : (t : Transform) → Ranges t → soundTransform t ≡ true
+unfolding soundTransform
+in-ranges t r =
+    simp (le-leb _ _ (r .mode), le-leb _ _ (r .level), le-leb _ _ (r .projection), le-leb _ _ (r .texture))
+
+-- a part of it is replaced by one in its range
+module _ (t : Transform) (r : Ranges t) where
+  pub failed-in : Ranges (failed t)
+  failed-in = record { mode = r .mode; level = r .level; projection = r .projection; texture = r .texture }
+
+  pub pair-in : (p : Pair) → p .level ≤ 31 → Ranges (withPair t p)
+  pair-in p h = record { mode = r .mode; level = h; projection = r .projection; texture = r .texture }
+
+  pub single-in : (s : Single) → s .level ≤ 1 → Ranges (withSingle t s)
+  single-in s h =
+      cond-case Ranges (eqb (t .mode) 3) (withTexture t s) (withProjection t s)
+      (λ e. record { mode = r .mode; level = r .level; projection = r .projection; texture = h })
+      (λ e. record { mode = r .mode; level = r .level; projection = h; texture = r .texture })
+
+  pub single-level : single t .level ≤ 1
+  single-level =
+      cond-case (λ (s : Single). s .level ≤ 1) (eqb (t .mode) 3) (t .texture) (t .projection) (λ e. r .texture)
+      (λ e. r .projection)
+
+-- ---- the parts of a sound record
+
+pub record Parts (e : Engine) : Type 0 where
+  pub transform : soundTransform (e .core .matrices .transform) ≡ true
+  pub geometry : soundGeometry (e .core .geometry) ≡ true
+  pub stream : soundStream (e .stream) ≡ true
+
+pub parts : (e : Engine) → sound e ≡ true → Parts e
+unfolding sound soundCore
+parts e h =
+    let both = and-eq-true-iff (soundCore (e .core)) (soundStream (e .stream)) .0 h in
+    let core =
+    and-eq-true-iff (soundTransform (e .core .matrices .transform)) (soundGeometry (e .core .geometry)) .0 (both .0) in
+    record { transform = core .0; geometry = core .1; stream = both .1 }
+
+pub whole : (e : Engine) → Parts e → sound e ≡ true
+unfolding sound soundCore
+whole e p = simp (p .transform, p .geometry, p .stream)
+
+-- a part is replaced by a sound one
+pub matrices-kept : (e : Engine) (m : Matrices) → sound e ≡ true → soundTransform (m .transform) ≡ true
+    → sound (withMatrices e m) ≡ true
+matrices-kept e m h k =
+    let p = parts e h in whole (withMatrices e m) (record { transform = k; geometry = p .geometry; stream = p .stream })
+
+pub geometry-kept : (e : Engine) (g : Geometry) → sound e ≡ true → soundGeometry g ≡ true
+    → sound (withGeometry e g) ≡ true
+geometry-kept e g h k =
+    let p = parts e h in whole (withGeometry e g) (record { transform = p .transform; geometry = k; stream = p .stream })
+
+-- ---- fresh and start
+
+pub fresh-sound : sound fresh ≡ true
+unfolding sound soundCore soundTransform soundGeometry soundWaiting soundStream pendingOf soundPending commandsOf commandBytes counted known lookup commandRows freshTransform freshGeometry freshStream fresh
+fresh-sound = refl
+
+rooms-geometry : (v p : ℕ) → roomsAllowed v p ≡ true → soundGeometry (withRooms fresh v p .core .geometry) ≡ true
+unfolding withRooms fresh freshGeometry soundGeometry soundWaiting
+rooms-geometry v p h = simp (h, le-leb 0 v (omega arith), le-leb 0 p (omega arith))
+
+rooms-kept : (v p : ℕ) → roomsAllowed v p ≡ true → sound (withRooms fresh v p) ≡ true
+unfolding withRooms
+rooms-kept v p h = geometry-kept fresh (withRooms fresh v p .core .geometry) fresh-sound (rooms-geometry v p h)
+
+-- a start answers with a sound engine, refused or not
+pub start-sound : (v p : ℕ) → sound (start v p .engine) ≡ true
+unfolding start
+start-sound v p =
+    cond-case (λ (a : Answer). sound (a .engine) ≡ true) (roomsAllowed v p) (answered 0 (withRooms fresh v p))
+    (answered 11 fresh) (rooms-kept v p) (λ h. fresh-sound)
