@@ -62,6 +62,13 @@ pub fn low32(x: u64) -> i32
     }
 }
 
+// A word, read as a signed number.
+pub fn signed32(word: u32) -> i32
+    ensures { λ r. ⌜ r ≡ signedLow 32 (pos word) ⌝ }
+{
+    low32(word as u64)
+}
+
 // The bits of a word from bit `at` on; past bit 31 a word has only zeros.
 fn bits_from(word: u32, at: u32) -> u32
     ensures { λ r. ⌜ pos r ≡ floorBits at (pos word) ⌝ }

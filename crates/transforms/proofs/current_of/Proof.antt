@@ -1,0 +1,20 @@
+-- `transforms::current_of` meets its contract. Assumes nothing.
+use mathlib.Core.Path.{sym, _∙_}
+use borrow.Author.Needs.{needs}
+use Rattle.transforms.proofs.current_of.Statement.{statement}
+use Rattle.transforms.proofs.current_of.Tie as tie
+
+uses-pair-requires : tie.Need-uses-pair-requires
+uses-pair-requires c κs = search needs
+
+single-of-requires : tie.Need-single-of-requires
+single-of-requires c κs = search needs
+
+returns : tie.Need-returns
+returns c = simp (sym (c .before .before .before .uses-pair .ensures) ∙ c .before .before .if1 .taken)
+
+returns-2 : tie.Need-returns-2
+returns-2 c = simp (sym (c .before .before .before .uses-pair .ensures) ∙ c .before .before .if1 .left, c .before .single-of .ensures)
+
+pub current-of-spec : {M : Type 1} → statement M
+current-of-spec = tie.close (tie.spec uses-pair-requires single-of-requires returns returns-2)
