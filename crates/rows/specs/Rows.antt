@@ -1,6 +1,6 @@
 -- Document 01, "Rows to check", those marked P: what the definitions give, beside what the row says. One claim covers
 -- the table, and each of its rows holds by computing the definitions. Assumes nothing.
-use mathlib.Core.Bool.{cond}
+use mathlib.Core.Bool.{true, false, cond}
 use mathlib.Core.List.{List, [], _∷_, map}
 use mathlib.Core.Path.{_≡_, refl}
 use Prim.Native.Nat.{ℕ, zero, suc}
@@ -10,6 +10,14 @@ use Rattle.lowbits.specs.Bits.{floorBits, lowBits, asSigned}
 use Rattle.commands.specs.declared.Count.the-variants.{Takes, Unknown}
 use Rattle.commands.specs.Commands.{commandRows, lookup, known}
 use Rattle.matrix.specs.Matrix.{entry, rowBy, mul, unit, scaleMatrix, at, one}
+use Rattle.state.specs.declared.Matrices.{Matrices}
+use Rattle.state.specs.With.{withPair, withTransform, failed}
+use Rattle.state.specs.Fresh.{zeros, freshTransform, fresh}
+use Rattle.stacks.specs.declared.StackCommand.the-variants.{Push, Pop, Store}
+use Rattle.stacks.specs.Slot.{slotAt}
+use Rattle.stacks.specs.Stack.{level, stored, loaded, pushPair, popPair, storePair, runStack}
+use Rattle.transforms.specs.declared.MatrixCommand.the-variants.{Mode}
+use Rattle.transforms.specs.Command.{runMatrix}
 
 pub record WorkedRow : Type 1 where
   pub Kind : Type 0
@@ -33,6 +41,19 @@ knownBelow (suc n) = cond (known n) (suc (knownBelow n)) (knownBelow n)
 abbrev scaled : ℤ → ℤ → ℤ
 scaled raw by = at (mul (scaleMatrix by one one) (set unit 0 raw)) 0
 
+-- the fresh matrices in mode 1
+abbrev inMode1 : Matrices
+inMode1 = let m : Matrices = fresh .core .matrices in withTransform m (runMatrix Mode (1 ∷ []) (m .transform))
+
+-- after n pushes
+abbrev pushes : ℕ → Matrices → Matrices
+pushes zero m = m
+pushes (suc n) m = pushes n (runStack Push 0 m)
+
+-- the error flag is set, and nothing else is changed
+abbrev errorOnly : Matrices → Matrices
+errorOnly m = withTransform m (failed (m .transform))
+
 abbrev pub workedRows : List WorkedRow
 workedRows =
     -- 1: parameters of 34h 32; 73h, 9Fh and FFh unknown
@@ -42,8 +63,21 @@ workedRows =
     -- 3: scale raw 1 by raw -1 gives -1; by 4095 gives 0; raw 7FFFFFFFh by 8192 gives -2
     ∷ row (scaled (pos 1) (negsuc 0) ∷ scaled (pos 1) (pos 4095) ∷ scaled (pos 0x7fff_ffff) (pos 8192) ∷ [])
     (negsuc 0 ∷ pos 0 ∷ negsuc 1 ∷ [])
+    -- 4: position level 31, push: error, level 31
+    ∷ row (level (pushes 31 inMode1) ∷ level (pushes 32 inMode1) ∷ []) (31 ∷ 31 ∷ [])
+    ∷ row (pushes 31 inMode1 .transform .error ∷ pushes 32 inMode1 .transform .error ∷ []) (false ∷ true ∷ [])
+    -- 5: fresh, mode 1, pop 1: error, and nothing else changes
+    ∷ row (runStack Pop 1 inMode1) (errorOnly inMode1)
+    -- pop 3Fh: level 1, position matrix all zero; the vector matrix is loaded too, and nothing else changes
+    ∷ row (runStack Pop 0x3f inMode1)
+    (withTransform inMode1
+    (withPair (inMode1 .transform) (record { position = zeros 16; vector = zeros 16; level = 1 })))
+    -- 6: store 30 fine, 31 error
+    ∷ row (slotAt (runStack Store 30 inMode1 .stacks .positions) 30) unit
+    ∷ row (runStack Store 30 inMode1 .transform .error) false
+    ∷ row (runStack Store 31 inMode1) (errorOnly inMode1)
     ∷ []
 
 pub worked : AllHold workedRows
-unfolding commandRows lookup known floorBits lowBits asSigned entry rowBy mul unit scaleMatrix
-worked = (refl, (refl, (refl, tt)))
+unfolding commandRows lookup known floorBits lowBits asSigned entry rowBy mul unit scaleMatrix freshTransform fresh runMatrix stored loaded pushPair popPair storePair runStack
+worked = (refl, (refl, (refl, (refl, (refl, (refl, (refl, (refl, (refl, (refl, tt))))))))))

@@ -78,9 +78,11 @@ fn store_both(m: Matrices, slot: usize, top: usize) -> Matrices
     let vector = p.vector;
     let positions = s.positions;
     let vectors = s.vectors;
+    let new_positions = set_slot(positions, slot, position);
+    let new_vectors = set_slot(vectors, slot, vector);
     let stacks = Stacks {
-        positions: set_slot(positions, slot, position),
-        vectors: set_slot(vectors, slot, vector),
+        positions: new_positions,
+        vectors: new_vectors,
     };
     p.level = top;
     t.pair = p;
@@ -162,9 +164,9 @@ fn restore_pair(m: Matrices, p: u32) -> Matrices
 {
     let t = m.transform;
     let top = t.pair.level;
-    let slot = (p % 32) as usize;
-    if slot <= 30 {
-        load_both(m, slot, top)
+    let from = (p % 32) as usize;
+    if from <= 30 {
+        load_both(m, from, top)
     } else {
         fail(m)
     }

@@ -1,6 +1,7 @@
 -- `stacks::pop_pair` meets its contract. Assumes nothing.
 use mathlib.Core.Path.{sym, ap, _∙_}
 use Prim.Native.Nat.{ℕ, _+_, _-_}
+use native.Mathlib.Omega.{arith}
 use borrow.Author.Needs.{needs}
 use Rattle.stacks.specs.Stack.{level}
 use Rattle.stacks.proofs.Target.{pop-below, pop-above, pop-at}
@@ -30,7 +31,7 @@ returns-2 c =
     let a = c .before .before .before .before .before .before .args in
     let b = c .before .before .before .bias .ensures in
     c .fail2 .ensures
-    ∙ sym (pop-above (a .m) (a .p) (rw (sym b) (c .before .before .if1 .left)) (rw (sym b) (c .before .if2 .taken)))
+    ∙ sym (pop-above (a .m) (a .p) (rw (sym b) (c .before .before .if1 .left)) (omega (arith, b, c .before .if2 .taken)))
 
 load-both-requires : tie.Need-load-both-requires
 load-both-requires c κs = search needs
