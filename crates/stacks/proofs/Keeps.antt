@@ -16,7 +16,7 @@ use Rattle.state.proofs.SoundLaws.{Ranges, ranges, in-ranges, cond-case, failed
 use Rattle.state.proofs.SoundLaws.{parts, matrices-kept}
 use Rattle.stacks.specs.declared.StackCommand.{StackCommand}
 use Rattle.stacks.specs.declared.StackCommand.the-variants.{Push, Pop, Store, Restore}
-use Rattle.stacks.specs.Stack.{attempt, level, stored, loaded, pushPair, target, popTo, popPair, storePair}
+use Rattle.stacks.specs.Stack.{attempt, isSlot, level, stored, loaded, pushPair, target, popTo, popPair, storePair}
 use Rattle.stacks.specs.Stack.{restorePair, withOne, storedOne, loadedOne, pushSingle, popSingle, storeSingle}
 use Rattle.stacks.specs.Stack.{restoreSingle, runPair, runSingle, runStack}
 
@@ -46,12 +46,12 @@ module _ (m : Matrices) (r : In m) where
   push-pair : In (pushPair m)
   unfolding pushPair
   push-pair =
-      attempted (leb (level m) 30) (stored m (level m) (level m + 1))
+      attempted (isSlot (level m)) (stored m (level m) (level m + 1))
       (λ e. let h = leb-true (level m) 30 e in stored-in (level m) (level m + 1) (omega arith))
 
   pop-to : (t : ℤ) → In (popTo m t)
   pop-to (pos n) =
-      attempted (leb n 30) (loaded m n n) (λ e. let h = leb-true n 30 e in loaded-in n n (omega arith))
+      attempted (isSlot n) (loaded m n n) (λ e. let h = leb-true n 30 e in loaded-in n n (omega arith))
   pop-to (negsuc n) = attempted false m (λ e. r)
 
   run-pair : (c : StackCommand) (p : ℕ) → In (runPair c p m)
@@ -59,9 +59,9 @@ module _ (m : Matrices) (r : In m) where
   run-pair Push p = push-pair
   run-pair Pop p = pop-to (target (level m) p)
   run-pair Store p =
-      attempted (leb (p % 32) 30) (stored m (p % 32) (level m)) (λ e. stored-in (p % 32) (level m) (r .level))
+      attempted (isSlot (p % 32)) (stored m (p % 32) (level m)) (λ e. stored-in (p % 32) (level m) (r .level))
   run-pair Restore p =
-      attempted (leb (p % 32) 30) (loaded m (p % 32) (level m)) (λ e. loaded-in (p % 32) (level m) (r .level))
+      attempted (isSlot (p % 32)) (loaded m (p % 32) (level m)) (λ e. loaded-in (p % 32) (level m) (r .level))
 
   -- ---- projection and texture
 

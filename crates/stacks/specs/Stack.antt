@@ -23,6 +23,10 @@ attempt allowed m moved = cond allowed moved (withTransform m (failed (m .transf
 -- ---- position and vector: "31 slots each, one level S from 0 to 31, used alike in modes 1 and 2 and always for both
 -- ---- matrices"
 
+-- "31 slots": 0 to 30
+abbrev pub isSlot : ℕ → Bool
+isSlot k = leb k 30
+
 -- the level S
 abbrev pub level : Matrices → ℕ
 level m = m .transform .pair .level
@@ -48,7 +52,7 @@ loaded m k n =
 
 -- "Push: S ≤ 30 stores in slot S and adds 1."
 unfoldable pub pushPair : Matrices → Matrices
-pushPair m = attempt (leb (level m) 30) m (stored m (level m) (level m + 1))
+pushPair m = attempt (isSlot (level m)) m (stored m (level m) (level m + 1))
 
 -- "Pop: N is bits 0-5, signed; T = S - N;
 abbrev pub target : ℕ → ℕ → ℤ
@@ -56,7 +60,7 @@ target s p = pos s -ℤ signedLow 6 (pos p)
 
 -- for 0 ≤ T ≤ 30, S becomes T and slot T is loaded."
 abbrev pub popTo : Matrices → ℤ → Matrices
-popTo m (pos n) = attempt (leb n 30) m (loaded m n n)
+popTo m (pos n) = attempt (isSlot n) m (loaded m n n)
 popTo m (negsuc n) = attempt false m m
 
 unfoldable pub popPair : Matrices → ℕ → Matrices
@@ -64,10 +68,10 @@ popPair m p = popTo m (target (level m) p)
 
 -- "Store and restore: slot is bits 0-4, 31 is an error, S is not used."
 unfoldable pub storePair : Matrices → ℕ → Matrices
-storePair m p = attempt (leb (p % 32) 30) m (stored m (p % 32) (level m))
+storePair m p = attempt (isSlot (p % 32)) m (stored m (p % 32) (level m))
 
 unfoldable pub restorePair : Matrices → ℕ → Matrices
-restorePair m p = attempt (leb (p % 32) 30) m (loaded m (p % 32) (level m))
+restorePair m p = attempt (isSlot (p % 32)) m (loaded m (p % 32) (level m))
 
 -- ---- projection and texture, the one that the mode names: "one slot each, level 0 or 1"
 

@@ -25,6 +25,9 @@ pub enum StackCommand {
     Restore,
 }
 
+// A stack has 31 slots, 0 to 30.
+const LAST_SLOT: usize = 30;
+
 // `stack` with `m` in slot `slot`.
 fn set_slot(stack: [i32; 496], slot: usize, m: [i32; 16]) -> [i32; 496]
     requires { ⌜ slot < 31 ⌝ }
@@ -115,7 +118,7 @@ fn push_pair(m: Matrices) -> Matrices
 {
     let t = m.transform;
     let top = t.pair.level;
-    if top <= 30 {
+    if top <= LAST_SLOT {
         store_both(m, top, top + 1)
     } else {
         fail(m)
@@ -140,7 +143,7 @@ fn pop_pair(m: Matrices, p: u32) -> Matrices
         return fail(m);
     }
     let top = s - n;
-    if 30 < top {
+    if LAST_SLOT < top {
         return fail(m);
     }
     load_both(m, top, top)
@@ -152,7 +155,7 @@ fn store_pair(m: Matrices, p: u32) -> Matrices
     let t = m.transform;
     let top = t.pair.level;
     let slot = (p % 32) as usize;
-    if slot <= 30 {
+    if slot <= LAST_SLOT {
         store_both(m, slot, top)
     } else {
         fail(m)
@@ -165,7 +168,7 @@ fn restore_pair(m: Matrices, p: u32) -> Matrices
     let t = m.transform;
     let top = t.pair.level;
     let from = (p % 32) as usize;
-    if from <= 30 {
+    if from <= LAST_SLOT {
         load_both(m, from, top)
     } else {
         fail(m)
