@@ -1,6 +1,6 @@
 -- What can be read and cleared between calls. Document 01, "Numbers a call can refuse with": "Calls that only read or
--- clear, and lend no list, refuse with 1 only. A refused call changes nothing; its lengths, matrices and status read 0".
--- Assumes nothing.
+-- clear, and lend no list, refuse with 1 only. A refused call changes nothing; its lengths, matrices and status read
+-- 0". Assumes nothing.
 use mathlib.Core.Bool.{false, cond}
 use mathlib.Core.List.{List, [], _∷_}
 use Prim.Native.Nat.{ℕ, _+_, _*_, _%_}
@@ -38,7 +38,8 @@ unfoldable pub readClipMatrix : Engine → MatrixAnswer
 readClipMatrix e =
     let t : Transform = transformOf e in
     let clip : List ℤ = clipMatrix (t .pair .position) (t .projection .matrix) in
-    cond (sound e) (record { number = 0; place = 0; matrix = clip }) (record { number = 1; place = 0; matrix = zeros 16 })
+    cond (sound e) (record { number = 0; place = 0; matrix = clip })
+    (record { number = 1; place = 0; matrix = zeros 16 })
 
 -- the first three numbers of each of the first three rows
 unfoldable pub corner : List ℤ → List ℤ

@@ -1,6 +1,6 @@
 // What can be read and cleared between calls: the status word, the clip matrix, the vector matrix, the overflow flag.
-// Each call takes any record and refuses only one that is not sound, with 1: a read then gives zeros, a clear the engine
-// it was given. Document 01, "Matrices", "Numbers a call can refuse with".
+// Each call takes any record and refuses only one that is not sound, with 1: a read then gives zeros, a clear the
+// engine it was given. Document 01, "Matrices", "Numbers a call can refuse with".
 ghost use mathlib.Core.Path.{_≡_};
 ghost use Rattle.registers.specs.Registers.{statusWord, readStatus, readClipMatrix, corner, readVectorMatrix};
 ghost use Rattle.registers.specs.Registers.{readOverflow, errorCleared, clearError, overflowCleared};

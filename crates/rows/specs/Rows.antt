@@ -79,5 +79,6 @@ workedRows =
     ∷ []
 
 pub worked : AllHold workedRows
-unfolding commandRows lookup known floorBits lowBits asSigned entry rowBy mul unit scaleMatrix freshTransform fresh runMatrix stored loaded pushPair popPair storePair runStack
+unfolding commandRows lookup known floorBits lowBits asSigned entry rowBy mul unit scaleMatrix
+    freshTransform fresh runMatrix stored loaded pushPair popPair storePair runStack
 worked = (refl, (refl, (refl, (refl, (refl, (refl, (refl, (refl, (refl, (refl, tt))))))))))

@@ -3,7 +3,7 @@ use mathlib.Core.Bool.{Bool, true, false}
 use mathlib.Core.Path.{_≡_}
 use Prim.Native.Nat.{ℕ, _+_, _%_, _≤_}
 use native.Mathlib.Omega.{arith}
-use lib.Dec.{eqb, leb}
+use lib.Dec.{eqb}
 use lib.IntN.{ℤ, pos, negsuc}
 use borrow.Author.Tests.{leb-true}
 use Rattle.state.specs.declared.Transform.{Transform}
@@ -16,9 +16,9 @@ use Rattle.state.proofs.SoundLaws.{Ranges, ranges, in-ranges, cond-case, failed
 use Rattle.state.proofs.SoundLaws.{parts, matrices-kept}
 use Rattle.stacks.specs.declared.StackCommand.{StackCommand}
 use Rattle.stacks.specs.declared.StackCommand.the-variants.{Push, Pop, Store, Restore}
-use Rattle.stacks.specs.Stack.{attempt, isSlot, level, stored, loaded, pushPair, target, popTo, popPair, storePair}
-use Rattle.stacks.specs.Stack.{restorePair, withOne, storedOne, loadedOne, pushSingle, popSingle, storeSingle}
-use Rattle.stacks.specs.Stack.{restoreSingle, runPair, runSingle, runStack}
+use Rattle.stacks.specs.Stack.{attempt, isSlot, level, stored, loaded, pushPair, target, popTo, popPair}
+use Rattle.stacks.specs.Stack.{storePair, restorePair, withOne, storedOne, loadedOne, pushSingle, popSingle}
+use Rattle.stacks.specs.Stack.{storeSingle, restoreSingle, runPair, runSingle, runStack}
 
 -- the ranges of the transform part
 abbrev In : Matrices → Type 0

@@ -1,18 +1,19 @@
 -- Laws of soundness: the ranges of the transform part, the parts of a sound record, and that a start gives a sound one.
 -- Assumes nothing.
 use mathlib.Core.Bool.{Bool, true, false, cond, and-eq-true-iff}
-use mathlib.Core.Path.{_≡_, refl}
+use mathlib.Core.Path.{_≡_, refl, ap, _∙_}
 use Prim.Native.Nat.{ℕ, _≤_}
 use native.Mathlib.Omega.{arith}
 use lib.Dec.{eqb}
 use borrow.Author.Tests.{leb-true, le-leb}
 use Rattle.commands.specs.Commands.{commandRows, lookup, known, counted, commandBytes}
-use Rattle.stream.specs.Pending.{commandsOf, soundPending}
+use Rattle.stream.specs.Pending.{isPending, commandsOf, soundPending}
 use Rattle.state.specs.declared.Pair.{Pair}
 use Rattle.state.specs.declared.Single.{Single}
 use Rattle.state.specs.declared.Transform.{Transform}
 use Rattle.state.specs.declared.Matrices.{Matrices}
 use Rattle.state.specs.declared.Geometry.{Geometry}
+use Rattle.state.specs.declared.Stream.{Stream}
 use Rattle.state.specs.declared.Engine.{Engine}
 use Rattle.state.specs.declared.Answer.{Answer}
 use Rattle.state.specs.With.{withPair, withProjection, withTexture, failed, withMatrices, withGeometry, withRooms}
@@ -96,17 +97,20 @@ whole e p = simp (p .transform, p .geometry, p .stream)
 pub matrices-kept : (e : Engine) (m : Matrices) → sound e ≡ true → soundTransform (m .transform) ≡ true
     → sound (withMatrices e m) ≡ true
 matrices-kept e m h k =
-    let p = parts e h in whole (withMatrices e m) (record { transform = k; geometry = p .geometry; stream = p .stream })
+    let p = parts e h in
+    whole (withMatrices e m) (record { transform = k; geometry = p .geometry; stream = p .stream })
 
 pub geometry-kept : (e : Engine) (g : Geometry) → sound e ≡ true → soundGeometry g ≡ true
     → sound (withGeometry e g) ≡ true
 geometry-kept e g h k =
-    let p = parts e h in whole (withGeometry e g) (record { transform = p .transform; geometry = k; stream = p .stream })
+    let p = parts e h in
+    whole (withGeometry e g) (record { transform = p .transform; geometry = k; stream = p .stream })
 
 -- ---- fresh and start
 
 pub fresh-sound : sound fresh ≡ true
-unfolding sound soundCore soundTransform soundGeometry soundWaiting soundStream pendingOf soundPending commandsOf commandBytes counted known lookup commandRows freshTransform freshGeometry freshStream fresh
+unfolding sound soundCore soundTransform soundGeometry soundWaiting soundStream pendingOf soundPending
+    commandsOf commandBytes counted known lookup commandRows freshTransform freshGeometry freshStream fresh
 fresh-sound = refl
 
 rooms-geometry : (v p : ℕ) → roomsAllowed v p ≡ true → soundGeometry (withRooms fresh v p .core .geometry) ≡ true
@@ -123,3 +127,20 @@ unfolding start
 start-sound v p =
     cond-case (λ (a : Answer). sound (a .engine) ≡ true) (roomsAllowed v p) (answered 0 (withRooms fresh v p))
     (answered 11 fresh) (rooms-kept v p) (λ h. fresh-sound)
+
+-- and with nothing pending
+fresh-idle : isPending (pendingOf (fresh .stream)) ≡ false
+unfolding pendingOf commandsOf commandBytes counted known lookup commandRows freshStream fresh
+fresh-idle = refl
+
+same-stream : (v p : ℕ) → withRooms fresh v p .stream ≡ fresh .stream
+unfolding withRooms
+same-stream v p = refl
+
+pub start-idle : (v p : ℕ) → isPending (pendingOf (start v p .engine .stream)) ≡ false
+unfolding start
+start-idle v p =
+    cond-case (λ (a : Answer). isPending (pendingOf (a .engine .stream)) ≡ false) (roomsAllowed v p)
+    (answered 0 (withRooms fresh v p)) (answered 11 fresh)
+    (λ h. ap (λ (s : Stream). isPending (pendingOf s)) (same-stream v p) ∙ fresh-idle)
+    (λ h. fresh-idle)

@@ -15,7 +15,8 @@ use Rattle.state.specs.declared.Stream.{Stream}
 use Rattle.state.specs.Sound.{pendingOf, soundStream}
 
 -- of n parameters in a list of 32, up to 32 are there: tests against a count of parameters give the same
-held-length : (n : ℕ) (l : List ℕ) → length l ≡ 32 → (n ≤ 32 → length (take n l) ≡ n) × (32 < n → length (take n l) ≡ 32)
+held-length : (n : ℕ) (l : List ℕ) → length l ≡ 32
+    → (n ≤ 32 → length (take n l) ≡ n) × (32 < n → length (take n l) ≡ 32)
 held-length n l e = (λ h. length-take-le n l (omega arith), λ h. ap length (take-all n l (omega arith)) ∙ e)
 
 ltb-held : (n m : ℕ) (l : List ℕ) → length l ≡ 32 → m ≤ 32 → ltb (length (take n l)) m ≡ ltb n m
@@ -41,7 +42,8 @@ pub stream-sound : (s : Stream) → length (s .held) ≡ 32
 unfolding soundStream pendingOf
 stream-sound s e =
     let b = getD (commandBytes (s .queue)) 0 0 in
+    let first = cond (eqb b 0) (s .port) b in
     rw (
-      sym (ltb-held (s .count) (count (cond (eqb b 0) (s .port) b)) (s .held) e (count-small (cond (eqb b 0) (s .port) b))),
+      sym (ltb-held (s .count) (count first) (s .held) e (count-small first)),
       sym (none-held (s .count) (s .held) e),
     ) (sound-from-tests (s .queue) (take (s .count) (s .held)) (s .dummy) (s .port))

@@ -19,7 +19,11 @@ use Rattle.state.specs.Fresh.{roomsAllowed}
 
 -- "every number in the range given here": modes 0 to 3, "one level S from 0 to 31", "level 0 or 1"
 unfoldable pub soundTransform : Transform → Bool
-soundTransform t = leb (t .mode) 3 && leb (t .pair .level) 31 && leb (t .projection .level) 1 && leb (t .texture .level) 1
+soundTransform t =
+    leb (t .mode) 3
+    && leb (t .pair .level) 31
+    && leb (t .projection .level) 1
+    && leb (t .texture .level) 1
 
 -- no list is open
 abbrev pub isClosed : OpenList → Bool

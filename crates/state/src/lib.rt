@@ -1,5 +1,5 @@
-// The engine's record, by value: the core, which is all that demand 3 compares with the rooms beside it, and the command
-// stream. Here are the fresh engine, the start and the test that a record is sound.
+// The engine's record, by value: the core (all that demand 3 compares, and the rooms) and the command stream. Here are
+// the fresh engine, the start, and the test that a record is sound.
 ghost use mathlib.Core.Path.{_≡_};
 ghost use mathlib.Core.Bool.{cond};
 ghost use lib.Dec.{eqb};
@@ -9,7 +9,7 @@ ghost use Rattle.state.specs.Mode.{usesPair, single, withSingle};
 ghost use Rattle.state.specs.Fresh.{freshTransform, freshGeometry, freshStream, fresh, start};
 ghost use Rattle.state.specs.Fresh.{roomAllowed, roomsAllowed};
 ghost use Rattle.state.specs.Sound.{soundTransform, isClosed, needed, coloured, soundWaiting, soundGeometry};
-ghost use Rattle.state.specs.Sound.{soundCore, soundStream, sound};
+ghost use Rattle.state.specs.Sound.{soundStream, sound};
 use commands::command_bytes_in;
 use commands::count_in;
 use commands::has_hole;
@@ -39,8 +39,8 @@ pub struct Transform {
     pub error: bool,
 }
 
-// The stacks of position and vector, 31 slots each. Slot k is the sixteen numbers from 16 * k on. Only the stack commands
-// touch them.
+// The stacks of position and vector, 31 slots each. Slot k is the sixteen numbers from 16 * k on. Only the stack
+// commands touch them.
 pub struct Stacks {
     pub positions: [i32; 496],
     pub vectors: [i32; 496],
@@ -61,8 +61,8 @@ pub struct Coordinates {
 // A vertex as the caller's buffer holds it: X, Y, Z, W and colour.
 pub type VertexRecord = [i32; 5];
 
-// The list that 40h opened. A triangle strip keeps whether its next k is odd; for every other kind, and when closed, this
-// reads even.
+// The list that 40h opened. A triangle strip keeps whether its next k is odd; for every other kind, and when closed,
+// this reads even.
 pub enum OpenList {
     Closed,
     Triangles,
@@ -107,8 +107,9 @@ pub struct Core {
 }
 
 // The command stream between two calls. `queue` is the rest of the packed command word, its next command lowest; `held`
-// has the parameters so far of that command, or of the port command that is pending: the first `count` of 32. Those past
-// the count are free: nothing reads them. `dummy`: the dummy word is due; `port`: the port command pending, 0 for none.
+// has the parameters so far of that command, or of the port command that is pending: the first `count` of 32. Those
+// past the count are free: nothing reads them. `dummy`: the dummy word is due; `port`: the port command that is
+// pending, 0 for none.
 pub struct Stream {
     pub queue: u32,
     pub held: [u32; 32],
@@ -367,15 +368,6 @@ fn is_sound_geometry(g: Geometry) -> bool
         & (g.used.polygons <= g.rooms.polygons)
 }
 
-fn is_sound_core(c: Core) -> bool
-    ensures { λ r. ⌜ r ≡ soundCore c ⌝ }
-{
-    let m = c.matrices;
-    let t = m.transform;
-    let g = c.geometry;
-    is_sound_transform(t) & is_sound_geometry(g)
-}
-
 // The command that the held parameters belong to: the next one of the queue, else the port's.
 fn first_of(next: u8, port: u8) -> u8
     ensures { λ r. ⌜ r ≡ cond (eqb next 0) port next ⌝ }
@@ -403,9 +395,10 @@ pub fn is_sound_in(table: &[u8; 256], e: Engine) -> bool
     requires { ⌜ now table ≡ parameterTable ⌝ }
     ensures { λ r. ⌜ r ≡ sound e ⌝ }
 {
-    let c = e.core;
+    let t = e.core.matrices.transform;
+    let g = e.core.geometry;
     let s = e.stream;
-    is_sound_core(c) & is_sound_stream(table, s)
+    is_sound_transform(t) & is_sound_geometry(g) & is_sound_stream(table, s)
 }
 
 // Whether the record is sound.

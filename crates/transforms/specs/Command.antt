@@ -1,5 +1,5 @@
--- The matrix commands with their parameters: document 01, Matrices. "In mode 2 loads, unit, multiplies and translate act
--- on both; scale acts on position only." Assumes nothing.
+-- The matrix commands with their parameters: document 01, Matrices. "In mode 2 loads, unit, multiplies and translate
+-- act on both; scale acts on position only." Assumes nothing.
 use mathlib.Core.List.{List, map}
 use Prim.Native.Nat.{ℕ, _%_}
 use lib.IntN.{ℤ, pos}

@@ -19,7 +19,13 @@ answered-requires-2 c κs = search needs
 
 returns : tie.Need-returns
 unfolding clearOverflow
-returns c = simp (sym (c .before .before .before .before .before .is-sound .ensures) ∙ c .before .before .before .before .if1 .taken, c .answered .ensures, c .before .overflow-cleared .ensures)
+returns c =
+    let d = c .before .before .before .before in
+    simp (
+      sym (d .before .is-sound .ensures) ∙ d .if1 .taken,
+      c .answered .ensures,
+      c .before .overflow-cleared .ensures,
+    )
 
 returns-2 : tie.Need-returns-2
 unfolding clearOverflow

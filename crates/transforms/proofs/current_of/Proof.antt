@@ -14,7 +14,11 @@ returns : tie.Need-returns
 returns c = simp (sym (c .before .before .before .uses-pair .ensures) ∙ c .before .before .if1 .taken)
 
 returns-2 : tie.Need-returns-2
-returns-2 c = simp (sym (c .before .before .before .uses-pair .ensures) ∙ c .before .before .if1 .left, c .before .single-of .ensures)
+returns-2 c =
+    simp (
+      sym (c .before .before .before .uses-pair .ensures) ∙ c .before .before .if1 .left,
+      c .before .single-of .ensures,
+    )
 
 pub current-of-spec : {M : Type 1} → statement M
 current-of-spec = tie.close (tie.spec uses-pair-requires single-of-requires returns returns-2)

@@ -13,7 +13,12 @@ with-vector-requires c κs = search needs
 
 returns : tie.Need-returns
 unfolding onBoth onCurrent
-returns c = simp (eq-eqb _ _ (c .before .if1 .taken), c .with-vector .ensures, c .before .before .before .with-current .ensures)
+returns c =
+    simp (
+      eq-eqb _ _ (c .before .if1 .taken),
+      c .with-vector .ensures,
+      c .before .before .before .with-current .ensures,
+    )
 
 returns-2 : tie.Need-returns-2
 unfolding onBoth onCurrent

@@ -107,7 +107,13 @@ returns-3 c = simp (c .before .before .enum-told3 .given .1, c .load2 .ensures, 
 
 returns-4 : tie.Need-returns-4
 unfolding runMatrix
-returns-4 c = simp (c .before .before .before .enum-told4 .given .1, c .load3 .ensures, c .before .matrix-4x3 .ensures, c .before .before .numbers2 .ensures)
+returns-4 c =
+    simp (
+      c .before .before .before .enum-told4 .given .1,
+      c .load3 .ensures,
+      c .before .matrix-4x3 .ensures,
+      c .before .before .numbers2 .ensures,
+    )
 
 returns-5 : tie.Need-returns-5
 unfolding runMatrix
@@ -115,11 +121,23 @@ returns-5 c = simp (c .before .before .enum-told5 .given .1, c .multiply .ensure
 
 returns-6 : tie.Need-returns-6
 unfolding runMatrix
-returns-6 c = simp (c .before .before .before .enum-told6 .given .1, c .multiply2 .ensures, c .before .matrix-4x32 .ensures, c .before .before .numbers4 .ensures)
+returns-6 c =
+    simp (
+      c .before .before .before .enum-told6 .given .1,
+      c .multiply2 .ensures,
+      c .before .matrix-4x32 .ensures,
+      c .before .before .numbers4 .ensures,
+    )
 
 returns-7 : tie.Need-returns-7
 unfolding runMatrix
-returns-7 c = simp (c .before .before .before .enum-told7 .given .1, c .multiply3 .ensures, c .before .matrix-3x3 .ensures, c .before .before .numbers5 .ensures)
+returns-7 c =
+    simp (
+      c .before .before .before .enum-told7 .given .1,
+      c .multiply3 .ensures,
+      c .before .matrix-3x3 .ensures,
+      c .before .before .numbers5 .ensures,
+    )
 
 returns-8 : tie.Need-returns-8
 unfolding runMatrix

@@ -17,7 +17,12 @@ returns : tie.Need-returns
 returns c = simp (sym (c .before .before .uses-pair .ensures) ∙ c .before .if1 .taken)
 
 returns-2 : tie.Need-returns-2
-returns-2 c = simp (sym (c .before .before .before .uses-pair .ensures) ∙ c .before .before .if1 .left, c .with-single .ensures, c .before .single-of .ensures)
+returns-2 c =
+    simp (
+      sym (c .before .before .before .uses-pair .ensures) ∙ c .before .before .if1 .left,
+      c .with-single .ensures,
+      c .before .single-of .ensures,
+    )
 
 pub with-current-spec : {M : Type 1} → statement M
 with-current-spec =
