@@ -4,6 +4,7 @@ ghost use mathlib.Core.Path.{_≡_};
 ghost use Prim.Native.Nat.{_+_, _%_, _<_, _≤_};
 ghost use lib.ListN.{length};
 ghost use Rattle.state.specs.With.{withTransform, failed};
+ghost use Rattle.state.specs.Mode.{single, withSingle};
 ghost use Rattle.stacks.specs.Slot.{setSlot, slotAt};
 ghost use Rattle.stacks.specs.Stack.{level, stored, loaded, pushPair, popPair, storePair, restorePair};
 ghost use Rattle.stacks.specs.Stack.{withOne, storedOne, loadedOne};
@@ -13,9 +14,8 @@ use state::Matrices;
 use state::Pair;
 use state::Single;
 use state::Stacks;
-use state::single_of;
+use state::Transform;
 use state::uses_pair;
-use state::with_single;
 
 // 11h, 12h, 13h and 14h.
 pub enum StackCommand {
@@ -172,6 +172,26 @@ fn restore_pair(m: Matrices, p: u32) -> Matrices
         load_both(m, from, top)
     } else {
         fail(m)
+    }
+}
+
+// In the other modes, the matrix that the mode names: texture in mode 3, else projection.
+fn single_of(t: Transform) -> Single
+    ensures { λ r. ⌜ r ≡ single t ⌝ }
+{
+    if t.mode == 3 { t.texture } else { t.projection }
+}
+
+fn with_single(t: Transform, s: Single) -> Transform
+    ensures { λ r. ⌜ r ≡ withSingle t s ⌝ }
+{
+    let mut n = t;
+    if t.mode == 3 {
+        n.texture = s;
+        n
+    } else {
+        n.projection = s;
+        n
     }
 }
 

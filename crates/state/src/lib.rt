@@ -5,7 +5,7 @@ ghost use mathlib.Core.Bool.{cond};
 ghost use lib.Dec.{eqb};
 ghost use Rattle.commands.specs.Commands.{parameterTable};
 ghost use Rattle.state.specs.With.{withRooms, answered};
-ghost use Rattle.state.specs.Mode.{usesPair, single, withSingle};
+ghost use Rattle.state.specs.Mode.{usesPair};
 ghost use Rattle.state.specs.Fresh.{freshTransform, freshGeometry, freshStream, fresh, start};
 ghost use Rattle.state.specs.Fresh.{roomAllowed, roomsAllowed};
 ghost use Rattle.state.specs.Sound.{soundTransform, isClosed, needed, coloured, soundWaiting, soundGeometry};
@@ -281,26 +281,6 @@ pub fn uses_pair(mode: u32) -> bool
     ensures { λ r. ⌜ r ≡ usesPair mode ⌝ }
 {
     (mode == 1) | (mode == 2)
-}
-
-// In the other modes, the matrix that the mode names: texture in mode 3, else projection.
-pub fn single_of(t: Transform) -> Single
-    ensures { λ r. ⌜ r ≡ single t ⌝ }
-{
-    if t.mode == 3 { t.texture } else { t.projection }
-}
-
-pub fn with_single(t: Transform, s: Single) -> Transform
-    ensures { λ r. ⌜ r ≡ withSingle t s ⌝ }
-{
-    let mut n = t;
-    if t.mode == 3 {
-        n.texture = s;
-        n
-    } else {
-        n.projection = s;
-        n
-    }
 }
 
 fn is_sound_transform(t: Transform) -> bool

@@ -1,5 +1,5 @@
 -- Every matrix command keeps the record sound. Assumes nothing.
-use mathlib.Core.Bool.{true}
+use mathlib.Core.Bool.{Bool, true, false}
 use mathlib.Core.List.{List}
 use mathlib.Core.Path.{_≡_}
 use Prim.Native.Nat.{ℕ}
@@ -9,7 +9,7 @@ use lib.IntN.{ℤ}
 use Rattle.matrix.specs.Matrix.{unit, mul, matrix4x3, matrix3x3}
 use Rattle.state.specs.declared.Transform.{Transform}
 use Rattle.state.specs.declared.Engine.{Engine}
-use Rattle.state.specs.With.{withPosition, withVector, withMatrix, withTransform, withMatrices}
+use Rattle.state.specs.With.{withMatrix, withTransform, withMatrices}
 use Rattle.state.specs.Mode.{usesPair, single}
 use Rattle.state.specs.Sound.{soundTransform, sound}
 use Rattle.state.proofs.SoundLaws.{Ranges, ranges, in-ranges, cond-case, pair-in, single-in, single-level, parts}
@@ -17,27 +17,18 @@ use Rattle.state.proofs.SoundLaws.{matrices-kept}
 use Rattle.transforms.specs.declared.MatrixCommand.{MatrixCommand}
 use Rattle.transforms.specs.declared.MatrixCommand.the-variants.{Mode, Identity, Load4x4, Load4x3, Multiply4x4}
 use Rattle.transforms.specs.declared.MatrixCommand.the-variants.{Multiply4x3, Multiply3x3, Scale, Translate}
-use Rattle.transforms.specs.Current.{current, withCurrent, onCurrent, onBoth}
+use Rattle.transforms.specs.Act.{onPair, act, onBoth}
 use Rattle.transforms.specs.Command.{numbersOf, scaleOf, translationOf, runMatrix}
 
 module _ (t : Transform) (r : Ranges t) where
-  current-in : (m : List ℤ) → Ranges (withCurrent t m)
-  current-in m =
-      cond-case Ranges (usesPair (t .mode)) _ _ (λ e. pair-in t r (withPosition (t .pair) m) (r .level))
-      (λ e. single-in t r (withMatrix (single t) m) (single-level t r))
-
-  on-current : (f : List ℤ → List ℤ) → Ranges (onCurrent f t)
-  unfolding onCurrent
-  on-current f = current-in (f (current t))
+  acted : (both : Bool) (f : List ℤ → List ℤ) → Ranges (act both f t)
+  unfolding act onPair
+  acted both f =
+      cond-case Ranges (usesPair (t .mode)) _ _ (λ e. pair-in t r (onPair both f (t .pair)) (r .level))
+      (λ e. single-in t r (withMatrix (single t) (f (single t .matrix))) (single-level t r))
 
   on-both : (f : List ℤ → List ℤ) → Ranges (onBoth f t)
-  unfolding onBoth
-  on-both f =
-      let u = onCurrent f t in
-      let in-u = on-current f in
-      cond-case Ranges (eqb (t .mode) 2) _ u
-      (λ e. pair-in u in-u (withVector (u .pair) (f (t .pair .vector))) (in-u .level))
-      (λ e. in-u)
+  on-both f = acted (eqb (t .mode) 2) f
 
   kept : (c : MatrixCommand) (p : List ℕ) → Ranges (runMatrix c p t)
   unfolding runMatrix
@@ -49,7 +40,7 @@ module _ (t : Transform) (r : Ranges t) where
   kept Multiply4x4 p = on-both (mul (numbersOf p))
   kept Multiply4x3 p = on-both (mul (matrix4x3 (numbersOf p)))
   kept Multiply3x3 p = on-both (mul (matrix3x3 (numbersOf p)))
-  kept Scale p = on-current (mul (scaleOf (numbersOf p)))
+  kept Scale p = acted false (mul (scaleOf (numbersOf p)))
   kept Translate p = on-both (mul (translationOf (numbersOf p)))
 
 pub run-matrix : (c : MatrixCommand) (p : List ℕ) (t : Transform) → soundTransform t ≡ true

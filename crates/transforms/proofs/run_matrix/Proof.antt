@@ -81,8 +81,11 @@ enum-told-8 c = search needs
 numbers-requires-6 : tie.Need-numbers-requires-6
 numbers-requires-6 c κs = search needs
 
-scale-requires : tie.Need-scale-requires
-scale-requires c κs = search needs
+scale-of-requires : tie.Need-scale-of-requires
+scale-of-requires c κs = search needs
+
+multiply-requires-4 : tie.Need-multiply-requires-4
+multiply-requires-4 c κs = search needs
 
 enum-told-9 : tie.Need-enum-told-9
 enum-told-9 c = search needs
@@ -90,8 +93,11 @@ enum-told-9 c = search needs
 numbers-requires-7 : tie.Need-numbers-requires-7
 numbers-requires-7 c κs = search needs
 
-translate-requires : tie.Need-translate-requires
-translate-requires c κs = search needs
+translation-of-requires : tie.Need-translation-of-requires
+translation-of-requires c κs = search needs
+
+multiply-requires-5 : tie.Need-multiply-requires-5
+multiply-requires-5 c κs = search needs
 
 returns : tie.Need-returns
 unfolding runMatrix
@@ -141,11 +147,23 @@ returns-7 c =
 
 returns-8 : tie.Need-returns-8
 unfolding runMatrix
-returns-8 c = simp (c .before .before .enum-told8 .given .1, c .scale .ensures, c .before .numbers6 .ensures)
+returns-8 c =
+    simp (
+      c .before .before .before .enum-told8 .given .1,
+      c .multiply4 .ensures,
+      c .before .scale-of .ensures,
+      c .before .before .numbers6 .ensures,
+    )
 
 returns-9 : tie.Need-returns-9
 unfolding runMatrix
-returns-9 c = simp (c .before .before .enum-told9 .given .1, c .translate .ensures, c .before .numbers7 .ensures)
+returns-9 c =
+    simp (
+      c .before .before .before .enum-told9 .given .1,
+      c .multiply5 .ensures,
+      c .before .translation-of .ensures,
+      c .before .before .numbers7 .ensures,
+    )
 
 pub run-matrix-spec : {M : Type 1} → statement M
 run-matrix-spec =
@@ -176,10 +194,12 @@ run-matrix-spec =
     multiply-requires-3
     enum-told-8
     numbers-requires-6
-    scale-requires
+    scale-of-requires
+    multiply-requires-4
     enum-told-9
     numbers-requires-7
-    translate-requires
+    translation-of-requires
+    multiply-requires-5
     returns
     returns-2
     returns-3
