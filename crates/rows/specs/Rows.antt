@@ -1,6 +1,6 @@
 -- Document 01, "Rows to check", those marked P: what the definitions give, beside what the row says. One claim covers
 -- the table, and each of its rows holds by computing the definitions. Assumes nothing.
-use mathlib.Core.Bool.{true, false, cond}
+use mathlib.Core.Bool.{false, cond}
 use mathlib.Core.List.{List, [], _∷_, map}
 use mathlib.Core.Path.{_≡_, refl}
 use Prim.Native.Nat.{ℕ, zero, suc}
@@ -63,9 +63,10 @@ workedRows =
     -- 3: scale raw 1 by raw -1 gives -1; by 4095 gives 0; raw 7FFFFFFFh by 8192 gives -2
     ∷ row (scaled (pos 1) (negsuc 0) ∷ scaled (pos 1) (pos 4095) ∷ scaled (pos 0x7fff_ffff) (pos 8192) ∷ [])
     (negsuc 0 ∷ pos 0 ∷ negsuc 1 ∷ [])
-    -- 4: position level 31, push: error, level 31
+    -- 4: position level 31, push: error, level 31, and nothing else changes
     ∷ row (level (pushes 31 inMode1) ∷ level (pushes 32 inMode1) ∷ []) (31 ∷ 31 ∷ [])
-    ∷ row (pushes 31 inMode1 .transform .error ∷ pushes 32 inMode1 .transform .error ∷ []) (false ∷ true ∷ [])
+    ∷ row (pushes 31 inMode1 .transform .error) false
+    ∷ row (pushes 32 inMode1) (errorOnly (pushes 31 inMode1))
     -- 5: fresh, mode 1, pop 1: error, and nothing else changes
     ∷ row (runStack Pop 1 inMode1) (errorOnly inMode1)
     -- pop 3Fh: level 1, position matrix all zero; the vector matrix is loaded too, and nothing else changes
@@ -81,4 +82,4 @@ workedRows =
 pub worked : AllHold workedRows
 unfolding commandRows lookup known floorBits lowBits asSigned entry rowBy mul unit scaleMatrix
     freshTransform fresh runMatrix stored loaded pushPair popPair storePair runStack
-worked = (refl, (refl, (refl, (refl, (refl, (refl, (refl, (refl, (refl, (refl, tt))))))))))
+worked = (refl, (refl, (refl, (refl, (refl, (refl, (refl, (refl, (refl, (refl, (refl, tt)))))))))))

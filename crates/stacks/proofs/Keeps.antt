@@ -17,8 +17,8 @@ use Rattle.state.proofs.SoundLaws.{parts, matrices-kept}
 use Rattle.stacks.specs.declared.StackCommand.{StackCommand}
 use Rattle.stacks.specs.declared.StackCommand.the-variants.{Push, Pop, Store, Restore}
 use Rattle.stacks.specs.Stack.{attempt, isSlot, level, stored, loaded, pushPair, target, popTo, popPair}
-use Rattle.stacks.specs.Stack.{storePair, restorePair, withOne, storedOne, loadedOne, pushSingle, popSingle}
-use Rattle.stacks.specs.Stack.{storeSingle, restoreSingle, runPair, runSingle, runStack}
+use Rattle.stacks.specs.Stack.{storePair, restorePair, putSingle, storedSingle, loadedSingle, pushSingle}
+use Rattle.stacks.specs.Stack.{popSingle, storeSingle, restoreSingle, runPair, runSingle, runStack}
 
 -- the ranges of the transform part
 abbrev In : Matrices → Type 0
@@ -69,12 +69,12 @@ module _ (m : Matrices) (r : In m) where
   unfolding pushSingle popSingle storeSingle restoreSingle
   run-single Push =
       let s = single t in
-      attempted (eqb (s .level) 0) (withOne m (storedOne s 1)) (λ e. single-in t r (storedOne s 1) (omega arith))
+      attempted (eqb (s .level) 0) (putSingle m (storedSingle s 1)) (λ e. single-in t r (storedSingle s 1) (omega arith))
   run-single Pop =
       let s = single t in
-      attempted (eqb (s .level) 1) (withOne m (loadedOne s 0)) (λ e. single-in t r (loadedOne s 0) (omega arith))
-  run-single Store = let s = single t in single-in t r (storedOne s (s .level)) (single-level t r)
-  run-single Restore = let s = single t in single-in t r (loadedOne s (s .level)) (single-level t r)
+      attempted (eqb (s .level) 1) (putSingle m (loadedSingle s 0)) (λ e. single-in t r (loadedSingle s 0) (omega arith))
+  run-single Store = let s = single t in single-in t r (storedSingle s (s .level)) (single-level t r)
+  run-single Restore = let s = single t in single-in t r (loadedSingle s (s .level)) (single-level t r)
 
   -- ---- every stack command
 

@@ -76,38 +76,38 @@ restorePair m p = attempt (isSlot (p % 32)) m (loaded m (p % 32) (level m))
 -- ---- projection and texture, the one that the mode names: "one slot each, level 0 or 1"
 
 -- m with s for the matrix that the mode names
-abbrev pub withOne : Matrices → Single → Matrices
-withOne m s = withTransform m (withSingle (m .transform) s)
+abbrev pub putSingle : Matrices → Single → Matrices
+putSingle m s = withTransform m (withSingle (m .transform) s)
 
 -- the matrix goes to the slot, and the level becomes n
-abbrev pub storedOne : Single → ℕ → Single
-storedOne s n = record { matrix = s .matrix; slot = s .matrix; level = n }
+abbrev pub storedSingle : Single → ℕ → Single
+storedSingle s n = record { matrix = s .matrix; slot = s .matrix; level = n }
 
 -- the matrix is loaded from the slot, and the level becomes n
-abbrev pub loadedOne : Single → ℕ → Single
-loadedOne s n = record { matrix = s .slot; slot = s .slot; level = n }
+abbrev pub loadedSingle : Single → ℕ → Single
+loadedSingle s n = record { matrix = s .slot; slot = s .slot; level = n }
 
 -- "Push at 1 or pop at 0 is an error. Pop's number is ignored."
 unfoldable pub pushSingle : Matrices → Matrices
 pushSingle m =
     let s : Single = single (m .transform) in
-    attempt (eqb (s .level) 0) m (withOne m (storedOne s 1))
+    attempt (eqb (s .level) 0) m (putSingle m (storedSingle s 1))
 
 unfoldable pub popSingle : Matrices → Matrices
 popSingle m =
     let s : Single = single (m .transform) in
-    attempt (eqb (s .level) 1) m (withOne m (loadedOne s 0))
+    attempt (eqb (s .level) 1) m (putSingle m (loadedSingle s 0))
 
 -- "Store and restore always use the slot."
 unfoldable pub storeSingle : Matrices → Matrices
 storeSingle m =
     let s : Single = single (m .transform) in
-    withOne m (storedOne s (s .level))
+    putSingle m (storedSingle s (s .level))
 
 unfoldable pub restoreSingle : Matrices → Matrices
 restoreSingle m =
     let s : Single = single (m .transform) in
-    withOne m (loadedOne s (s .level))
+    putSingle m (loadedSingle s (s .level))
 
 -- ---- the commands by the mode, with their parameter: 11h, 12h, 13h, 14h
 

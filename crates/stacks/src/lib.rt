@@ -7,7 +7,7 @@ ghost use Rattle.state.specs.With.{withTransform, failed};
 ghost use Rattle.state.specs.Mode.{single, withSingle};
 ghost use Rattle.stacks.specs.Slot.{setSlot, slotAt};
 ghost use Rattle.stacks.specs.Stack.{level, stored, loaded, pushPair, popPair, storePair, restorePair};
-ghost use Rattle.stacks.specs.Stack.{withOne, storedOne, loadedOne};
+ghost use Rattle.stacks.specs.Stack.{putSingle, storedSingle, loadedSingle};
 ghost use Rattle.stacks.specs.Stack.{pushSingle, popSingle, storeSingle, restoreSingle};
 ghost use Rattle.stacks.specs.Stack.{runPair, runSingle, runStack};
 use state::Matrices;
@@ -196,8 +196,8 @@ fn with_single(t: Transform, s: Single) -> Transform
 }
 
 // `m` with `s` for the matrix that the mode names.
-fn with_one(m: Matrices, s: Single) -> Matrices
-    ensures { λ r. ⌜ r ≡ withOne m s ⌝ }
+fn put_single(m: Matrices, s: Single) -> Matrices
+    ensures { λ r. ⌜ r ≡ putSingle m s ⌝ }
 {
     let t = m.transform;
     let mut n = m;
@@ -207,7 +207,7 @@ fn with_one(m: Matrices, s: Single) -> Matrices
 
 // The matrix goes to the slot.
 fn store_matrix(s: Single, top: usize) -> Single
-    ensures { λ r. ⌜ r ≡ storedOne s top ⌝ }
+    ensures { λ r. ⌜ r ≡ storedSingle s top ⌝ }
 {
     let m = s.matrix;
     Single {
@@ -219,7 +219,7 @@ fn store_matrix(s: Single, top: usize) -> Single
 
 // The matrix is loaded from the slot.
 fn load_matrix(s: Single, top: usize) -> Single
-    ensures { λ r. ⌜ r ≡ loadedOne s top ⌝ }
+    ensures { λ r. ⌜ r ≡ loadedSingle s top ⌝ }
 {
     let m = s.slot;
     Single {
@@ -235,7 +235,7 @@ fn push_single(m: Matrices) -> Matrices
     let t = m.transform;
     let s = single_of(t);
     if s.level == 0 {
-        with_one(m, store_matrix(s, 1))
+        put_single(m, store_matrix(s, 1))
     } else {
         fail(m)
     }
@@ -247,7 +247,7 @@ fn pop_single(m: Matrices) -> Matrices
     let t = m.transform;
     let s = single_of(t);
     if s.level == 1 {
-        with_one(m, load_matrix(s, 0))
+        put_single(m, load_matrix(s, 0))
     } else {
         fail(m)
     }
@@ -258,7 +258,7 @@ fn store_single(m: Matrices) -> Matrices
 {
     let t = m.transform;
     let s = single_of(t);
-    with_one(m, store_matrix(s, s.level))
+    put_single(m, store_matrix(s, s.level))
 }
 
 fn restore_single(m: Matrices) -> Matrices
@@ -266,7 +266,7 @@ fn restore_single(m: Matrices) -> Matrices
 {
     let t = m.transform;
     let s = single_of(t);
-    with_one(m, load_matrix(s, s.level))
+    put_single(m, load_matrix(s, s.level))
 }
 
 fn run_pair(m: Matrices, command: StackCommand, p: u32) -> Matrices
