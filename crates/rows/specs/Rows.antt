@@ -1,6 +1,6 @@
 -- Document 01, "Rows to check", those marked P: what the definitions give, beside what the row says. One claim covers
 -- the table, and each of its rows holds by computing the definitions. Assumes nothing.
-use mathlib.Core.Bool.{false, cond}
+use mathlib.Core.Bool.{true, false, cond}
 use mathlib.Core.List.{List, [], _∷_, map}
 use mathlib.Core.Path.{_≡_, refl}
 use Prim.Native.Nat.{ℕ, zero, suc}
@@ -45,6 +45,12 @@ scaled raw by = at (mul (scaleMatrix by one one) (set unit 0 raw)) 0
 abbrev inMode1 : Matrices
 inMode1 = let m : Matrices = fresh .core .matrices in withTransform m (runMatrix Mode (1 ∷ []) (m .transform))
 
+-- the same with position level 31
+abbrev atLevel31 : Matrices
+atLevel31 =
+    withTransform inMode1
+    (withPair (inMode1 .transform) (record { position = unit; vector = unit; level = 31 }))
+
 -- after n pushes
 abbrev pushes : ℕ → Matrices → Matrices
 pushes zero m = m
@@ -65,8 +71,8 @@ workedRows =
     (negsuc 0 ∷ pos 0 ∷ negsuc 1 ∷ [])
     -- 4: position level 31, push: error, level 31, and nothing else changes
     ∷ row (level (pushes 31 inMode1) ∷ level (pushes 32 inMode1) ∷ []) (31 ∷ 31 ∷ [])
-    ∷ row (pushes 31 inMode1 .transform .error) false
-    ∷ row (pushes 32 inMode1) (errorOnly (pushes 31 inMode1))
+    ∷ row (pushes 31 inMode1 .transform .error ∷ pushes 32 inMode1 .transform .error ∷ []) (false ∷ true ∷ [])
+    ∷ row (runStack Push 0 atLevel31) (errorOnly atLevel31)
     -- 5: fresh, mode 1, pop 1: error, and nothing else changes
     ∷ row (runStack Pop 1 inMode1) (errorOnly inMode1)
     -- pop 3Fh: level 1, position matrix all zero; the vector matrix is loaded too, and nothing else changes

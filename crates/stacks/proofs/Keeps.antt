@@ -69,10 +69,12 @@ module _ (m : Matrices) (r : In m) where
   unfolding pushSingle popSingle storeSingle restoreSingle
   run-single Push =
       let s = single t in
-      attempted (eqb (s .level) 0) (putSingle m (storedSingle s 1)) (λ e. single-in t r (storedSingle s 1) (omega arith))
+      attempted (eqb (s .level) 0) (putSingle m (storedSingle s 1))
+      (λ e. single-in t r (storedSingle s 1) (omega arith))
   run-single Pop =
       let s = single t in
-      attempted (eqb (s .level) 1) (putSingle m (loadedSingle s 0)) (λ e. single-in t r (loadedSingle s 0) (omega arith))
+      attempted (eqb (s .level) 1) (putSingle m (loadedSingle s 0))
+      (λ e. single-in t r (loadedSingle s 0) (omega arith))
   run-single Store = let s = single t in single-in t r (storedSingle s (s .level)) (single-level t r)
   run-single Restore = let s = single t in single-in t r (loadedSingle s (s .level)) (single-level t r)
 

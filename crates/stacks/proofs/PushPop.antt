@@ -10,7 +10,7 @@ use Rattle.stacks.specs.Stack.{level, stored, loaded, pushPair, popPair}
 use Rattle.stacks.proofs.Slots.{slotAt-setSlot}
 use Rattle.stacks.proofs.Target.{pop-at}
 
--- the stacks are long enough for slot S, and the matrices have sixteen numbers, as in every record that a function takes
+-- the matrices have sixteen numbers and the stacks reach to slot S, as in every record that a function takes
 pub record Lengths (m : Matrices) : Type 0 where
   pub position : length (m .transform .pair .position) ≡ 16
   pub vector : length (m .transform .pair .vector) ≡ 16
