@@ -1,5 +1,5 @@
 -- Laws of the table: from its rows to each byte. Assumes nothing.
-use mathlib.Core.Bool.{Bool, true, false, cond, _&&_, _||_, false≢true}
+use mathlib.Core.Bool.{Bool, true, false, cond, _&&_, _||_, and-eq-true-iff, false≢true}
 use mathlib.Core.List.{List, [], _∷_}
 use mathlib.Core.Path.{_≡_, refl, sym, ap, ap₂, _∙_}
 use Prim.Native.Nat.{ℕ, zero, suc, _+_, _≤_, _<_}
@@ -23,16 +23,12 @@ small : List CommandRow → Bool
 small [] = true
 small (r ∷ rs) = within (r .commands) && (leb (r .parameters) 32 && small rs)
 
-and-true : (a b : Bool) → (a && b) ≡ true → (a ≡ true) × (b ≡ true)
-and-true true b e = (refl, e)
-and-true false b e = absurd (false≢true e)
-
 among-within : (b : ℕ) (cs : List ℕ) → within cs ≡ true → among b cs ≡ true → (1 ≤ b) × (b < 256)
 unfolding within
 among-within b [] w e = absurd (false≢true e)
 among-within b (c ∷ cs) w e =
-    let w1 = and-true (leb 1 c) (leb c 255 && within cs) w in
-    let w2 = and-true (leb c 255) (within cs) (w1 .1) in
+    let w1 = and-eq-true-iff (leb 1 c) (leb c 255 && within cs) .0 w in
+    let w2 = and-eq-true-iff (leb c 255) (within cs) .0 (w1 .1) in
     by (eqb b c) refl e (leb-true 1 c (w1 .0)) (leb-true c 255 (w2 .0)) (among-within b cs (w2 .1))
   where
     by : (t : Bool) → eqb b c ≡ t → (t || among b cs) ≡ true → 1 ≤ c → c ≤ 255
@@ -49,8 +45,8 @@ find-small : (rs : List CommandRow) (b : ℕ) → small rs ≡ true → Small b 
 unfolding small
 find-small [] b t = record { range = λ e. absurd (false≢true e); few = omega arith }
 find-small (r ∷ rs) b t =
-    let t1 = and-true (within (r .commands)) (leb (r .parameters) 32 && small rs) t in
-    let t2 = and-true (leb (r .parameters) 32) (small rs) (t1 .1) in
+    let t1 = and-eq-true-iff (within (r .commands)) (leb (r .parameters) 32 && small rs) .0 t in
+    let t2 = and-eq-true-iff (leb (r .parameters) 32) (small rs) .0 (t1 .1) in
     by (among b (r .commands)) refl (t1 .0) (leb-true (r .parameters) 32 (t2 .0)) (find-small rs b (t2 .1))
   where
     by : (u : Bool) → among b (r .commands) ≡ u → within (r .commands) ≡ true → r .parameters ≤ 32
@@ -84,7 +80,7 @@ pub same-eq : (xs ys : List ℕ) → same xs ys ≡ true → xs ≡ ys
 unfolding same
 same-eq [] [] t = refl
 same-eq (x ∷ xs) (y ∷ ys) t =
-    let h = and-true (eqb x y) (same xs ys) t in
+    let h = and-eq-true-iff (eqb x y) (same xs ys) .0 t in
     ap₂ (λ (a : ℕ) (l : List ℕ). a ∷ l) (eqb-true x y (h .0)) (same-eq xs ys (h .1))
 same-eq [] (y ∷ ys) t = absurd (false≢true t)
 same-eq (x ∷ xs) [] t = absurd (false≢true t)

@@ -8,10 +8,10 @@ use lib.IntN.{ℤ}
 use Rattle.matrix.specs.Matrix.{at, clipMatrix}
 use Rattle.state.specs.declared.Single.{Single}
 use Rattle.state.specs.declared.Transform.{Transform}
-use Rattle.state.specs.declared.Geometry.{Geometry}
 use Rattle.state.specs.declared.Engine.{Engine}
 use Rattle.state.specs.declared.Answer.{Answer}
-use Rattle.state.specs.With.{withTransform, withMatrices, withGeometry, answered}
+use Rattle.state.specs.With.{withProjection, withError, withTransform, withMatrices, withOverflow, withGeometry}
+use Rattle.state.specs.With.{answered}
 use Rattle.state.specs.Fresh.{zeros}
 use Rattle.state.specs.Sound.{sound}
 use Rattle.registers.specs.declared.StatusAnswer.{StatusAnswer}
@@ -62,13 +62,7 @@ readOverflow e =
 unfoldable pub errorCleared : Transform → Transform
 errorCleared t =
     let s : Single = t .projection in
-    record {
-      pair = t .pair;
-      projection = record { matrix = s .matrix; slot = s .slot; level = 0 };
-      texture = t .texture;
-      mode = t .mode;
-      error = false;
-    }
+    withError (withProjection t (record { matrix = s .matrix; slot = s .slot; level = 0 })) false
 
 unfoldable pub clearError : Engine → Answer
 clearError e =
@@ -76,19 +70,6 @@ clearError e =
     cond (sound e) (answered 0 cleared) (answered 1 e)
 
 -- document 01, Vertices and polygons: "The flag stays until cleared."
-unfoldable pub overflowCleared : Geometry → Geometry
-overflowCleared g =
-    record {
-      colour = g .colour;
-      given = g .given;
-      attributes = g .attributes;
-      position = g .position;
-      waiting = g .waiting;
-      used = g .used;
-      rooms = g .rooms;
-      overflow = false;
-    }
-
 unfoldable pub clearOverflow : Engine → Answer
 clearOverflow e =
-    cond (sound e) (answered 0 (withGeometry e (overflowCleared (e .core .geometry)))) (answered 1 e)
+    cond (sound e) (answered 0 (withGeometry e (withOverflow (e .core .geometry) false))) (answered 1 e)

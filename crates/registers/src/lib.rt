@@ -2,8 +2,10 @@
 // Each call takes any record and refuses only one that is not sound, with 1: a read then gives zeros, a clear the
 // engine it was given. Document 01, "Matrices", "Numbers a call can refuse with".
 ghost use mathlib.Core.Path.{_≡_};
+ghost use mathlib.Core.Bool.{false};
+ghost use Rattle.state.specs.With.{withOverflow};
 ghost use Rattle.registers.specs.Registers.{statusWord, readStatus, readClipMatrix, corner, readVectorMatrix};
-ghost use Rattle.registers.specs.Registers.{readOverflow, errorCleared, clearError, overflowCleared};
+ghost use Rattle.registers.specs.Registers.{readOverflow, errorCleared, clearError};
 ghost use Rattle.registers.specs.Registers.{clearOverflow};
 use state::Answer;
 use state::Engine;
@@ -165,7 +167,7 @@ pub fn clear_error(e: Engine) -> Answer
 }
 
 fn overflow_cleared(g: Geometry) -> Geometry
-    ensures { λ r. ⌜ r ≡ overflowCleared g ⌝ }
+    ensures { λ r. ⌜ r ≡ withOverflow g false ⌝ }
 {
     let mut n = g;
     n.overflow = false;

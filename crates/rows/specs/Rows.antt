@@ -1,21 +1,24 @@
 -- Document 01, "Rows to check", those marked P: what the definitions give, beside what the row says. One claim covers
 -- the table, and each of its rows holds by computing the definitions. Assumes nothing.
-use mathlib.Core.Bool.{true, false, cond}
+use mathlib.Core.Bool.{Bool, true, false, cond}
 use mathlib.Core.List.{List, [], _∷_, map}
 use mathlib.Core.Path.{_≡_, refl}
 use Prim.Native.Nat.{ℕ, zero, suc}
 use lib.IntN.{ℤ, pos, negsuc}
-use lib.ListN.{set}
+use lib.ListN.{set, replicate}
 use Rattle.lowbits.specs.Bits.{floorBits, lowBits, asSigned}
 use Rattle.commands.specs.declared.Count.the-variants.{Takes, Unknown}
-use Rattle.commands.specs.Commands.{commandRows, lookup, known}
+use Rattle.commands.specs.Commands.{commandRows, lookup, known, count, counted, commandBytes}
 use Rattle.matrix.specs.Matrix.{entry, rowBy, mul, unit, scaleMatrix, at, one}
+use Rattle.stream.specs.Pending.{commandsOf, soundPending}
+use Rattle.state.specs.declared.Stream.{Stream}
 use Rattle.state.specs.declared.Matrices.{Matrices}
 use Rattle.state.specs.With.{withPair, withTransform, failed}
 use Rattle.state.specs.Fresh.{zeros, freshTransform, fresh}
+use Rattle.state.specs.Sound.{pendingOf, soundStream}
 use Rattle.stacks.specs.declared.StackCommand.the-variants.{Push, Pop, Store}
 use Rattle.stacks.specs.Slot.{slotAt}
-use Rattle.stacks.specs.Stack.{level, stored, loaded, pushPair, popPair, storePair, runStack}
+use Rattle.stacks.specs.Stack.{level, target, stored, loaded, pushPair, popPair, storePair, runStack}
 use Rattle.transforms.specs.declared.MatrixCommand.the-variants.{Mode}
 use Rattle.transforms.specs.Command.{runMatrix}
 
@@ -41,6 +44,11 @@ knownBelow (suc n) = cond (known n) (suc (knownBelow n)) (knownBelow n)
 abbrev scaled : ℤ → ℤ → ℤ
 scaled raw by = at (mul (scaleMatrix by one one) (set unit 0 raw)) 0
 
+-- a stream with this rest of a command word, n parameters held, and so on
+abbrev streamOf : ℕ → ℕ → Bool → ℕ → Stream
+streamOf queue n dummy port =
+    record { queue = queue; held = replicate 32 0; count = n; dummy = dummy; port = port }
+
 -- the fresh matrices in mode 1
 abbrev inMode1 : Matrices
 inMode1 = let m : Matrices = fresh .core .matrices in withTransform m (runMatrix Mode (1 ∷ []) (m .transform))
@@ -56,10 +64,6 @@ abbrev pushes : ℕ → Matrices → Matrices
 pushes zero m = m
 pushes (suc n) m = pushes n (runStack Push 0 m)
 
--- the error flag is set, and nothing else is changed
-abbrev errorOnly : Matrices → Matrices
-errorOnly m = withTransform m (failed (m .transform))
-
 abbrev pub workedRows : List WorkedRow
 workedRows =
     -- 1: parameters of 34h 32; 73h, 9Fh and FFh unknown
@@ -72,9 +76,9 @@ workedRows =
     -- 4: position level 31, push: error, level 31, and nothing else changes
     ∷ row (level (pushes 31 inMode1) ∷ level (pushes 32 inMode1) ∷ []) (31 ∷ 31 ∷ [])
     ∷ row (pushes 31 inMode1 .transform .error ∷ pushes 32 inMode1 .transform .error ∷ []) (false ∷ true ∷ [])
-    ∷ row (runStack Push 0 atLevel31) (errorOnly atLevel31)
+    ∷ row (runStack Push 0 atLevel31) (failed atLevel31)
     -- 5: fresh, mode 1, pop 1: error, and nothing else changes
-    ∷ row (runStack Pop 1 inMode1) (errorOnly inMode1)
+    ∷ row (runStack Pop 1 inMode1) (failed inMode1)
     -- pop 3Fh: level 1, position matrix all zero; the vector matrix is loaded too, and nothing else changes
     ∷ row (runStack Pop 0x3f inMode1)
     (withTransform inMode1
@@ -82,10 +86,61 @@ workedRows =
     -- 6: store 30 fine, 31 error
     ∷ row (slotAt (runStack Store 30 inMode1 .stacks .positions) 30) unit
     ∷ row (runStack Store 30 inMode1 .transform .error) false
-    ∷ row (runStack Store 31 inMode1) (errorOnly inMode1)
+    ∷ row (runStack Store 31 inMode1) (failed inMode1)
+    -- of "T = S - N", from S = 5: N = 0, 5, 6, 31, -32 and -1; bits above 5 are not looked at
+    ∷ row (map (target 5) (0 ∷ 5 ∷ 6 ∷ 31 ∷ 32 ∷ 0x3f ∷ 0xffff_ff40 ∷ []))
+    (pos 5 ∷ pos 0 ∷ negsuc 0 ∷ negsuc 25 ∷ pos 37 ∷ pos 6 ∷ pos 5 ∷ [])
+    -- of Sound: nothing pending; 10h queued with none of its one parameter, and with one
+    ∷ row (map soundStream (streamOf 0 0 false 0 ∷ streamOf 0x10 0 false 0 ∷ streamOf 0x10 1 false 0 ∷ []))
+    (true ∷ true ∷ false ∷ [])
+    -- 34h with 31 of its 32 parameters, and with 32; 15h, which takes none; a parameter without a command
+    ∷ row
+    (map soundStream
+    (streamOf 0x34 31 false 0 ∷ streamOf 0x34 32 false 0 ∷ streamOf 0x15 0 false 0 ∷ streamOf 0 1 false 0 ∷ []))
+    (true ∷ false ∷ false ∷ false ∷ [])
+    -- a hole below 11h; an unknown byte below 10h, and above it
+    ∷ row
+    (map soundStream
+    (streamOf 0x0011_0010 0 false 0 ∷ streamOf 0x1099 0 false 0 ∷ streamOf 0x9900_0010 0 false 0 ∷ []))
+    (false ∷ false ∷ true ∷ [])
+    -- the ports of 23h, 15h and 99h begun; that of 23h and a queue
+    ∷ row
+    (map soundStream
+    (streamOf 0 1 false 0x23 ∷ streamOf 0 0 false 0x15 ∷ streamOf 0 0 false 0x99 ∷ streamOf 0x10 0 false 0x23 ∷ []))
+    (true ∷ false ∷ false ∷ false ∷ [])
+    -- the dummy due; with a parameter held, with a queue, with a port begun
+    ∷ row
+    (map soundStream
+    (streamOf 0 0 true 0 ∷ streamOf 0 1 true 0 ∷ streamOf 0x10 0 true 0 ∷ streamOf 0 0 true 0x23 ∷ []))
+    (true ∷ false ∷ false ∷ false ∷ [])
     ∷ []
 
 pub worked : AllHold workedRows
-unfolding commandRows lookup known floorBits lowBits asSigned entry rowBy mul unit scaleMatrix
-    freshTransform fresh runMatrix stored loaded pushPair popPair storePair runStack
-worked = (refl, (refl, (refl, (refl, (refl, (refl, (refl, (refl, (refl, (refl, (refl, tt)))))))))))
+unfolding commandRows lookup known count counted commandBytes floorBits lowBits asSigned entry rowBy mul unit
+    scaleMatrix freshTransform fresh runMatrix stored loaded pushPair popPair storePair runStack
+    commandsOf soundPending pendingOf soundStream
+worked = (
+  refl,
+  (
+    refl,
+    (
+      refl,
+      (
+        refl,
+        (
+          refl,
+          (
+            refl,
+            (
+              refl,
+              (
+                refl,
+                (refl, (refl, (refl, (refl, (refl, (refl, (refl, (refl, (refl, tt))))))))),
+              ),
+            ),
+          ),
+        ),
+      ),
+    ),
+  ),
+)

@@ -9,11 +9,11 @@ use borrow.Author.Tests.{leb-true}
 use Rattle.state.specs.declared.Transform.{Transform}
 use Rattle.state.specs.declared.Matrices.{Matrices}
 use Rattle.state.specs.declared.Engine.{Engine}
-use Rattle.state.specs.With.{withMatrices}
+use Rattle.state.specs.With.{failed, withMatrices}
 use Rattle.state.specs.Mode.{usesPair, single}
 use Rattle.state.specs.Sound.{soundTransform, sound}
-use Rattle.state.proofs.SoundLaws.{Ranges, ranges, in-ranges, cond-case, failed-in, pair-in, single-in, single-level}
-use Rattle.state.proofs.SoundLaws.{parts, matrices-kept}
+use Rattle.state.proofs.SoundLaws.{Ranges, ranges, in-ranges, cond-case, error-in, pair-in, single-in, single-level}
+use Rattle.state.proofs.SoundLaws.{sound-parts, matrices-kept}
 use Rattle.stacks.specs.declared.StackCommand.{StackCommand}
 use Rattle.stacks.specs.declared.StackCommand.the-variants.{Push, Pop, Store, Restore}
 use Rattle.stacks.specs.Stack.{attempt, isSlot, level, stored, loaded, pushPair, target, popTo, popPair}
@@ -30,8 +30,7 @@ module _ (m : Matrices) (r : In m) where
 
   -- what is kept where a command is allowed is kept by the attempt
   attempted : (allowed : Bool) (moved : Matrices) → (allowed ≡ true → In moved) → In (attempt allowed m moved)
-  attempted allowed moved f =
-      cond-case In allowed moved _ f (λ e. failed-in t r)
+  attempted allowed moved f = cond-case In allowed moved (failed m) f (λ e. error-in t r true)
 
   -- ---- position and vector
 
@@ -90,7 +89,9 @@ pub run-stack : (c : StackCommand) (p : ℕ) (m : Matrices) → soundTransform (
     → soundTransform (runStack c p m .transform) ≡ true
 run-stack c p m h = in-ranges (runStack c p m .transform) (kept m (ranges (m .transform) h) c p)
 
+-- the engine after a stack command
 pub run-stack-sound : (c : StackCommand) (p : ℕ) (e : Engine) → sound e ≡ true
     → sound (withMatrices e (runStack c p (e .core .matrices))) ≡ true
 run-stack-sound c p e h =
-    matrices-kept e (runStack c p (e .core .matrices)) h (run-stack c p (e .core .matrices) (parts e h .transform))
+    let m = e .core .matrices in
+    matrices-kept e (runStack c p m) h (run-stack c p m (sound-parts e h .transform))

@@ -9,7 +9,7 @@ use borrow.Author.Tests.{lt-ltb, le-ltb, ltb-true, ltb-false, le-leb, lt-leb}
 use Rattle.lowbits.specs.Bits.{lowBits, signedLow}
 use Rattle.lowbits.proofs.Laws.{signed-lower, signed-upper}
 use Rattle.state.specs.declared.Matrices.{Matrices}
-use Rattle.state.specs.With.{withTransform, failed}
+use Rattle.state.specs.With.{failed}
 use Rattle.stacks.specs.Stack.{level, loaded, target, popTo, popPair}
 
 -- N + 32
@@ -59,12 +59,11 @@ target-below s p h = by (ltb (p % 64) 32) refl
 -- ---- what a pop does in each case
 
 module _ (m : Matrices) (p : ℕ) where
-  pub pop-below : level m + 32 < biased p → popPair m p ≡ withTransform m (failed (m .transform))
+  pub pop-below : level m + 32 < biased p → popPair m p ≡ failed m
   unfolding popPair
   pop-below h = ap (popTo m) (target-below (level m) p h)
 
-  pub pop-above : biased p ≤ level m + 32 → 30 < level m + 32 - biased p
-      → popPair m p ≡ withTransform m (failed (m .transform))
+  pub pop-above : biased p ≤ level m + 32 → 30 < level m + 32 - biased p → popPair m p ≡ failed m
   unfolding popPair
   pop-above h k = ap (popTo m) (target-at (level m) p h) ∙ rw (lt-leb (level m + 32 - biased p) 30 k)
 

@@ -15,10 +15,10 @@ use Rattle.stacks.specs.declared.StackCommand.{StackCommand}
 use Rattle.stacks.specs.declared.StackCommand.the-variants.{Push, Pop, Store, Restore}
 use Rattle.stacks.specs.Slot.{setSlot, slotAt}
 
--- every stack command ends here: it makes `moved` of m where it is allowed; else, "An error sets the error flag and
--- changes nothing else."
+-- every stack command that can be an error ends here: it makes `moved` of m where it is allowed; else, "An error sets
+-- the error flag and changes nothing else."
 abbrev pub attempt : Bool → Matrices → Matrices → Matrices
-attempt allowed m moved = cond allowed moved (withTransform m (failed (m .transform)))
+attempt allowed m moved = cond allowed moved (failed m)
 
 -- ---- position and vector: "31 slots each, one level S from 0 to 31, used alike in modes 1 and 2 and always for both
 -- ---- matrices"

@@ -3,7 +3,7 @@
 ghost use mathlib.Core.Path.{_≡_};
 ghost use Prim.Native.Nat.{_+_, _%_, _<_, _≤_};
 ghost use lib.ListN.{length};
-ghost use Rattle.state.specs.With.{withTransform, failed};
+ghost use Rattle.state.specs.With.{failed};
 ghost use Rattle.state.specs.Mode.{single, withSingle};
 ghost use Rattle.stacks.specs.Slot.{setSlot, slotAt};
 ghost use Rattle.stacks.specs.Stack.{level, stored, loaded, pushPair, popPair, storePair, restorePair};
@@ -60,7 +60,7 @@ fn slot_at(stack: &[i32; 496], slot: usize) -> [i32; 16]
 
 // Only the error flag is set.
 fn fail(m: Matrices) -> Matrices
-    ensures { λ r. ⌜ r ≡ withTransform m (failed (m .transform)) ⌝ }
+    ensures { λ r. ⌜ r ≡ failed m ⌝ }
 {
     let mut t = m.transform;
     t.error = true;

@@ -16,8 +16,8 @@ use Rattle.state.specs.declared.Geometry.{Geometry}
 use Rattle.state.specs.declared.Stream.{Stream}
 use Rattle.state.specs.declared.Engine.{Engine}
 use Rattle.state.specs.declared.Answer.{Answer}
-use Rattle.state.specs.With.{withPair, withProjection, withTexture, failed, withMatrices, withGeometry, withRooms}
-use Rattle.state.specs.With.{answered}
+use Rattle.state.specs.With.{withPair, withProjection, withTexture, withError, withMatrices, withGeometry}
+use Rattle.state.specs.With.{withRooms, answered}
 use Rattle.state.specs.Mode.{single, withSingle}
 use Rattle.state.specs.Fresh.{freshTransform, freshGeometry, freshStream, fresh, roomsAllowed, start}
 use Rattle.state.specs.Sound.{soundTransform, soundWaiting, soundGeometry, soundCore, pendingOf, soundStream}
@@ -57,8 +57,8 @@ in-ranges t r =
 
 -- a part of it is replaced by one in its range
 module _ (t : Transform) (r : Ranges t) where
-  pub failed-in : Ranges (failed t)
-  failed-in = record { mode = r .mode; level = r .level; projection = r .projection; texture = r .texture }
+  pub error-in : (b : Bool) → Ranges (withError t b)
+  error-in b = record { mode = r .mode; level = r .level; projection = r .projection; texture = r .texture }
 
   pub pair-in : (p : Pair) → p .level ≤ 31 → Ranges (withPair t p)
   pair-in p h = record { mode = r .mode; level = h; projection = r .projection; texture = r .texture }
@@ -76,35 +76,35 @@ module _ (t : Transform) (r : Ranges t) where
 
 -- ---- the parts of a sound record
 
-pub record Parts (e : Engine) : Type 0 where
+pub record SoundParts (e : Engine) : Type 0 where
   pub transform : soundTransform (e .core .matrices .transform) ≡ true
   pub geometry : soundGeometry (e .core .geometry) ≡ true
   pub stream : soundStream (e .stream) ≡ true
 
-pub parts : (e : Engine) → sound e ≡ true → Parts e
+pub sound-parts : (e : Engine) → sound e ≡ true → SoundParts e
 unfolding sound soundCore
-parts e h =
+sound-parts e h =
     let both = and-eq-true-iff (soundCore (e .core)) (soundStream (e .stream)) .0 h in
     let core =
     and-eq-true-iff (soundTransform (e .core .matrices .transform)) (soundGeometry (e .core .geometry)) .0 (both .0) in
     record { transform = core .0; geometry = core .1; stream = both .1 }
 
-pub whole : (e : Engine) → Parts e → sound e ≡ true
+pub parts-sound : (e : Engine) → SoundParts e → sound e ≡ true
 unfolding sound soundCore
-whole e p = simp (p .transform, p .geometry, p .stream)
+parts-sound e p = simp (p .transform, p .geometry, p .stream)
 
 -- a part is replaced by a sound one
 pub matrices-kept : (e : Engine) (m : Matrices) → sound e ≡ true → soundTransform (m .transform) ≡ true
     → sound (withMatrices e m) ≡ true
 matrices-kept e m h k =
-    let p = parts e h in
-    whole (withMatrices e m) (record { transform = k; geometry = p .geometry; stream = p .stream })
+    let p = sound-parts e h in
+    parts-sound (withMatrices e m) (record { transform = k; geometry = p .geometry; stream = p .stream })
 
 pub geometry-kept : (e : Engine) (g : Geometry) → sound e ≡ true → soundGeometry g ≡ true
     → sound (withGeometry e g) ≡ true
 geometry-kept e g h k =
-    let p = parts e h in
-    whole (withGeometry e g) (record { transform = p .transform; geometry = k; stream = p .stream })
+    let p = sound-parts e h in
+    parts-sound (withGeometry e g) (record { transform = p .transform; geometry = k; stream = p .stream })
 
 -- ---- fresh and start
 

@@ -1,5 +1,5 @@
 -- Parts of the record with one field changed, and what calls answer. Assumes nothing.
-use mathlib.Core.Bool.{true}
+use mathlib.Core.Bool.{Bool, true}
 use mathlib.Core.List.{List}
 use Prim.Native.Nat.{ℕ}
 use lib.IntN.{ℤ}
@@ -12,12 +12,6 @@ use Rattle.state.specs.declared.Engine.{Engine}
 use Rattle.state.specs.declared.Answer.{Answer}
 
 -- ---- the matrices
-
-abbrev pub withPosition : Pair → List ℤ → Pair
-withPosition p m = record { position = m; vector = p .vector; level = p .level }
-
-abbrev pub withVector : Pair → List ℤ → Pair
-withVector p m = record { position = p .position; vector = m; level = p .level }
 
 abbrev pub withMatrix : Single → List ℤ → Single
 withMatrix s m = record { matrix = m; slot = s .slot; level = s .level }
@@ -34,12 +28,30 @@ withTexture t s = record { pair = t .pair; projection = t .projection; texture =
 abbrev pub withMode : Transform → ℕ → Transform
 withMode t n = record { pair = t .pair; projection = t .projection; texture = t .texture; mode = n; error = t .error }
 
--- the error flag is set, and nothing else is changed
-abbrev pub failed : Transform → Transform
-failed t = record { pair = t .pair; projection = t .projection; texture = t .texture; mode = t .mode; error = true }
+abbrev pub withError : Transform → Bool → Transform
+withError t b = record { pair = t .pair; projection = t .projection; texture = t .texture; mode = t .mode; error = b }
 
 abbrev pub withTransform : Matrices → Transform → Matrices
 withTransform m t = record { transform = t; stacks = m .stacks }
+
+-- the error flag is set, and nothing else is changed
+abbrev pub failed : Matrices → Matrices
+failed m = withTransform m (withError (m .transform) true)
+
+-- ---- vertices and polygons
+
+unfoldable pub withOverflow : Geometry → Bool → Geometry
+withOverflow g b =
+    record {
+      colour = g .colour;
+      given = g .given;
+      attributes = g .attributes;
+      position = g .position;
+      waiting = g .waiting;
+      used = g .used;
+      rooms = g .rooms;
+      overflow = b;
+    }
 
 -- ---- the engine
 

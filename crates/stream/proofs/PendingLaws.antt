@@ -1,5 +1,5 @@
 -- Laws of what is pending: the commands of a word, and soundness from the tests that code makes. Assumes nothing.
-use mathlib.Core.Bool.{Bool, true, false, cond, not, _&&_, _||_, false≢true}
+use mathlib.Core.Bool.{Bool, true, false, cond, not, _&&_, _||_, and-false, or-false, false≢true}
 use mathlib.Core.List.{List, [], _∷_}
 use mathlib.Core.Logic.{_⊎_, inl, inr}
 use mathlib.Core.Path.{_≡_, refl, sym, ap, subst, _∙_}
@@ -66,14 +66,6 @@ unfolding hole
 hole-above b bs k = rw (known-not-zero b k)
 
 -- ---- soundness from the tests that code makes
-
-or-false : (t : Bool) → (t || false) ≡ t
-or-false true = refl
-or-false false = refl
-
-and-false : (t : Bool) → (t && false) ≡ false
-and-false true = refl
-and-false false = refl
 
 empty-length : (held : List ℕ) → isEmpty held ≡ eqb (length held) 0
 empty-length [] = refl

@@ -12,7 +12,7 @@ use Rattle.state.specs.declared.Engine.{Engine}
 use Rattle.state.specs.With.{withMatrix, withTransform, withMatrices}
 use Rattle.state.specs.Mode.{usesPair, single}
 use Rattle.state.specs.Sound.{soundTransform, sound}
-use Rattle.state.proofs.SoundLaws.{Ranges, ranges, in-ranges, cond-case, pair-in, single-in, single-level, parts}
+use Rattle.state.proofs.SoundLaws.{Ranges, ranges, in-ranges, cond-case, pair-in, single-in, single-level, sound-parts}
 use Rattle.state.proofs.SoundLaws.{matrices-kept}
 use Rattle.transforms.specs.declared.MatrixCommand.{MatrixCommand}
 use Rattle.transforms.specs.declared.MatrixCommand.the-variants.{Mode, Identity, Load4x4, Load4x3, Multiply4x4}
@@ -53,4 +53,4 @@ pub run-matrix-sound : (c : MatrixCommand) (p : List ℕ) (e : Engine) → sound
 run-matrix-sound c p e h =
     let m = e .core .matrices in
     matrices-kept e (withTransform m (runMatrix c p (m .transform))) h
-    (run-matrix c p (m .transform) (parts e h .transform))
+    (run-matrix c p (m .transform) (sound-parts e h .transform))
