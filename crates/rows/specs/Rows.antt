@@ -115,32 +115,15 @@ workedRows =
     (true ∷ false ∷ false ∷ false ∷ [])
     ∷ []
 
+-- one row holds, and the others
+infixr 5 _and_
+abbrev _and_ : {A B : Type 0} → A → B → A × B
+a and b = (a, b)
+
 pub worked : AllHold workedRows
 unfolding commandRows lookup known count counted commandBytes floorBits lowBits asSigned entry rowBy mul unit
     scaleMatrix freshTransform fresh runMatrix stored loaded pushPair popPair storePair runStack
     commandsOf soundPending pendingOf soundStream
-worked = (
-  refl,
-  (
-    refl,
-    (
-      refl,
-      (
-        refl,
-        (
-          refl,
-          (
-            refl,
-            (
-              refl,
-              (
-                refl,
-                (refl, (refl, (refl, (refl, (refl, (refl, (refl, (refl, (refl, tt))))))))),
-              ),
-            ),
-          ),
-        ),
-      ),
-    ),
-  ),
-)
+worked =
+    refl and refl and refl and refl and refl and refl and refl and refl and refl and refl and refl and refl
+    and refl and refl and refl and refl and refl and tt
