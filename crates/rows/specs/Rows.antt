@@ -1,7 +1,7 @@
 -- Document 01, "Rows to check", those marked P: what the definitions give, beside what the row says. One claim covers
 -- the table, and each of its rows holds by computing the definitions. Assumes nothing.
 use mathlib.Core.Bool.{Bool, true, false, cond}
-use mathlib.Core.List.{List, [], _∷_, map}
+use mathlib.Core.List.{List, [], _∷_, _++_, map}
 use mathlib.Core.Path.{_≡_, refl}
 use Prim.Native.Nat.{ℕ, zero, suc}
 use lib.IntN.{ℤ, pos, negsuc}
@@ -64,17 +64,27 @@ abbrev pushes : ℕ → Matrices → Matrices
 pushes zero m = m
 pushes (suc n) m = pushes n (runStack Push 0 m)
 
-abbrev pub workedRows : List WorkedRow
-workedRows =
+-- ---- the table, in document 01's order
+
+abbrev pub commandTableRows : List WorkedRow
+commandTableRows =
     -- 1: parameters of 34h 32; 73h, 9Fh and FFh unknown
     row (map lookup (0x34 ∷ 0x73 ∷ 0x9f ∷ 0xff ∷ [])) (Takes 32 ∷ Unknown ∷ Unknown ∷ Unknown ∷ [])
     -- of that table: "These 37 are known."
     ∷ row (knownBelow 256) 37
+    ∷ []
+
+abbrev pub matrixRows : List WorkedRow
+matrixRows =
     -- 3: scale raw 1 by raw -1 gives -1; by 4095 gives 0; raw 7FFFFFFFh by 8192 gives -2
-    ∷ row (scaled (pos 1) (negsuc 0) ∷ scaled (pos 1) (pos 4095) ∷ scaled (pos 0x7fff_ffff) (pos 8192) ∷ [])
+    row (scaled (pos 1) (negsuc 0) ∷ scaled (pos 1) (pos 4095) ∷ scaled (pos 0x7fff_ffff) (pos 8192) ∷ [])
     (negsuc 0 ∷ pos 0 ∷ negsuc 1 ∷ [])
+    ∷ []
+
+abbrev pub stackRows : List WorkedRow
+stackRows =
     -- 4: position level 31, push: error, level 31, and nothing else changes
-    ∷ row (level (pushes 31 inMode1) ∷ level (pushes 32 inMode1) ∷ []) (31 ∷ 31 ∷ [])
+    row (level (pushes 31 inMode1) ∷ level (pushes 32 inMode1) ∷ []) (31 ∷ 31 ∷ [])
     ∷ row (pushes 31 inMode1 .transform .error ∷ pushes 32 inMode1 .transform .error ∷ []) (false ∷ true ∷ [])
     ∷ row (runStack Push 0 atLevel31) (failed atLevel31)
     -- 5: fresh, mode 1, pop 1: error, and nothing else changes
@@ -90,8 +100,12 @@ workedRows =
     -- of "T = S - N", from S = 5: N = 0, 5, 6, 31, -32 and -1; bits above 5 are not looked at
     ∷ row (map (target 5) (0 ∷ 5 ∷ 6 ∷ 31 ∷ 32 ∷ 0x3f ∷ 0xffff_ff40 ∷ []))
     (pos 5 ∷ pos 0 ∷ negsuc 0 ∷ negsuc 25 ∷ pos 37 ∷ pos 6 ∷ pos 5 ∷ [])
+    ∷ []
+
+abbrev pub soundRows : List WorkedRow
+soundRows =
     -- of Sound: nothing pending; 10h queued with none of its one parameter, and with one
-    ∷ row (map soundStream (streamOf 0 0 false 0 ∷ streamOf 0x10 0 false 0 ∷ streamOf 0x10 1 false 0 ∷ []))
+    row (map soundStream (streamOf 0 0 false 0 ∷ streamOf 0x10 0 false 0 ∷ streamOf 0x10 1 false 0 ∷ []))
     (true ∷ true ∷ false ∷ [])
     -- 34h with 31 of its 32 parameters, and with 32; 15h, which takes none; a parameter without a command
     ∷ row
@@ -115,15 +129,33 @@ workedRows =
     (true ∷ false ∷ false ∷ false ∷ [])
     ∷ []
 
--- one row holds, and the others
-infixr 5 _and_
-abbrev _and_ : {A B : Type 0} → A → B → A × B
-a and b = (a, b)
+abbrev pub workedRows : List WorkedRow
+workedRows = commandTableRows ++ matrixRows ++ stackRows ++ soundRows
+
+-- ---- its claim
+
+command-table : AllHold commandTableRows
+unfolding commandRows lookup known
+command-table = (refl, (refl, tt))
+
+matrices : AllHold matrixRows
+unfolding floorBits lowBits asSigned entry rowBy mul unit scaleMatrix
+matrices = (refl, tt)
+
+stacks : AllHold stackRows
+unfolding lowBits asSigned unit freshTransform fresh runMatrix stored loaded pushPair popPair storePair runStack
+stacks = (refl, (refl, (refl, (refl, (refl, (refl, (refl, (refl, (refl, tt)))))))))
+
+sounds : AllHold soundRows
+unfolding commandRows lookup known count counted commandBytes commandsOf soundPending pendingOf soundStream
+sounds = (refl, (refl, (refl, (refl, (refl, tt)))))
+
+join : (xs ys : List WorkedRow) → AllHold xs → AllHold ys → AllHold (xs ++ ys)
+join [] ys a b = b
+join (x ∷ xs) ys a b = (a .0, join xs ys (a .1) b)
 
 pub worked : AllHold workedRows
-unfolding commandRows lookup known count counted commandBytes floorBits lowBits asSigned entry rowBy mul unit
-    scaleMatrix freshTransform fresh runMatrix stored loaded pushPair popPair storePair runStack
-    commandsOf soundPending pendingOf soundStream
 worked =
-    refl and refl and refl and refl and refl and refl and refl and refl and refl and refl and refl and refl
-    and refl and refl and refl and refl and refl and tt
+    join (commandTableRows ++ matrixRows ++ stackRows) soundRows
+    (join (commandTableRows ++ matrixRows) stackRows (join commandTableRows matrixRows command-table matrices) stacks)
+    sounds
