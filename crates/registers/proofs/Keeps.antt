@@ -15,7 +15,7 @@ unfolding errorCleared
 error-in t r = record { mode = r .mode; level = r .level; projection = omega arith; texture = r .texture }
 
 overflow-in : (g : Geometry) → soundGeometry g ≡ true → soundGeometry (withOverflow g false) ≡ true
-unfolding withOverflow soundGeometry
+unfolding soundGeometry
 overflow-in g h = h
 
 pub clear-error : (e : Engine) → sound e ≡ true → sound (clearError e .engine) ≡ true

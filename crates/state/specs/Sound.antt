@@ -46,10 +46,14 @@ needed QuadStrip = 4
 unfoldable pub coloured : List ℤ → Bool
 coloured v = leZ (pos 0) (getD v 4 (pos 0)) && ltZ (getD v 4 (pos 0)) (pos 32768)
 
--- "waiting vertices fewer than the open kind needs, none when closed", and each that waits has a colour
+-- "waiting vertices fewer than the open kind needs, none when closed"
+abbrev pub fewWait : OpenList → ℕ → Bool
+fewWait list n = isClosed list && eqb n 0 || ltb n (needed list)
+
+-- and each that waits has a colour
 unfoldable pub soundWaiting : Waiting → Bool
 soundWaiting w =
-    (isClosed (w .list) && eqb (w .count) 0 || ltb (w .count) (needed (w .list)))
+    fewWait (w .list) (w .count)
     && (leb (w .count) 0 || coloured (w .first))
     && (leb (w .count) 1 || coloured (w .second))
     && (leb (w .count) 2 || coloured (w .third))

@@ -7,6 +7,9 @@ use Rattle.state.specs.declared.Pair.{Pair}
 use Rattle.state.specs.declared.Single.{Single}
 use Rattle.state.specs.declared.Transform.{Transform}
 use Rattle.state.specs.declared.Matrices.{Matrices}
+use Rattle.state.specs.declared.Coordinates.{Coordinates}
+use Rattle.state.specs.declared.Waiting.{Waiting}
+use Rattle.state.specs.declared.Counts.{Counts}
 use Rattle.state.specs.declared.Geometry.{Geometry}
 use Rattle.state.specs.declared.Engine.{Engine}
 use Rattle.state.specs.declared.Answer.{Answer}
@@ -40,18 +43,39 @@ failed m = withTransform m (withError (m .transform) true)
 
 -- ---- vertices and polygons
 
-unfoldable pub withOverflow : Geometry → Bool → Geometry
-withOverflow g b =
+abbrev geometry : ℕ → ℕ → ℕ → Coordinates → Waiting → Counts → Counts → Bool → Geometry
+geometry colour given attributes position waiting used rooms overflow =
     record {
-      colour = g .colour;
-      given = g .given;
-      attributes = g .attributes;
-      position = g .position;
-      waiting = g .waiting;
-      used = g .used;
-      rooms = g .rooms;
-      overflow = b;
+      colour = colour;
+      given = given;
+      attributes = attributes;
+      position = position;
+      waiting = waiting;
+      used = used;
+      rooms = rooms;
+      overflow = overflow;
     }
+
+abbrev pub withColour : Geometry → ℕ → Geometry
+withColour g n = geometry n (g .given) (g .attributes) (g .position) (g .waiting) (g .used) (g .rooms) (g .overflow)
+
+abbrev pub withGiven : Geometry → ℕ → Geometry
+withGiven g n = geometry (g .colour) n (g .attributes) (g .position) (g .waiting) (g .used) (g .rooms) (g .overflow)
+
+abbrev pub withAttributes : Geometry → ℕ → Geometry
+withAttributes g n = geometry (g .colour) (g .given) n (g .position) (g .waiting) (g .used) (g .rooms) (g .overflow)
+
+abbrev pub withPosition : Geometry → Coordinates → Geometry
+withPosition g p = geometry (g .colour) (g .given) (g .attributes) p (g .waiting) (g .used) (g .rooms) (g .overflow)
+
+abbrev pub withWaiting : Geometry → Waiting → Geometry
+withWaiting g w = geometry (g .colour) (g .given) (g .attributes) (g .position) w (g .used) (g .rooms) (g .overflow)
+
+abbrev pub withUsed : Geometry → Counts → Geometry
+withUsed g n = geometry (g .colour) (g .given) (g .attributes) (g .position) (g .waiting) n (g .rooms) (g .overflow)
+
+abbrev pub withOverflow : Geometry → Bool → Geometry
+withOverflow g b = geometry (g .colour) (g .given) (g .attributes) (g .position) (g .waiting) (g .used) (g .rooms) b
 
 -- ---- the engine
 
@@ -65,17 +89,9 @@ withGeometry e g = record { core = record { matrices = e .core .matrices; geomet
 unfoldable pub withRooms : Engine → ℕ → ℕ → Engine
 withRooms e vertices polygons =
     let g : Geometry = e .core .geometry in
+    let rooms : Counts = record { vertices = vertices; polygons = polygons } in
     withGeometry e
-    (record {
-      colour = g .colour;
-      given = g .given;
-      attributes = g .attributes;
-      position = g .position;
-      waiting = g .waiting;
-      used = g .used;
-      rooms = record { vertices = vertices; polygons = polygons };
-      overflow = g .overflow;
-    })
+    (geometry (g .colour) (g .given) (g .attributes) (g .position) (g .waiting) (g .used) rooms (g .overflow))
 
 -- ---- what a call answers
 
