@@ -74,7 +74,13 @@ moved-requires-3 c κs = search needs
 
 returns : tie.Need-returns
 unfolding positionAfter
-returns c = simp (c .before .before .before .enum-told .given .1, c .before .before .low16 .ensures, c .before .field16 .ensures, c .low162 .ensures)
+returns c =
+    simp (
+      c .before .before .before .enum-told .given .1,
+      c .before .before .low16 .ensures,
+      c .before .field16 .ensures,
+      c .low162 .ensures,
+    )
 
 returns-2 : tie.Need-returns-2
 unfolding positionAfter
@@ -108,8 +114,10 @@ returns-6 c =
     let a = c .before .before .before .before .before .before .before .before .args .a in
     simp (
       c .before .before .before .before .before .before .enum-told6 .given .1,
-      c .before .before .before .before .moved .ensures ∙ ap (moves 0 a) (again w16 (p .x) (c .before .before .before .before .before .struct-told .given .0 .1)),
-      c .before .before .moved2 .ensures ∙ ap (moves 10 a) (again w16 (p .y) (c .before .before .before .struct-told2 .given .1 .0 .1)),
+      c .before .before .before .before .moved .ensures
+          ∙ ap (moves 0 a) (again w16 (p .x) (c .before .before .before .before .before .struct-told .given .0 .1)),
+      c .before .before .moved2 .ensures
+          ∙ ap (moves 10 a) (again w16 (p .y) (c .before .before .before .struct-told2 .given .1 .0 .1)),
       c .moved3 .ensures ∙ ap (moves 20 a) (again w16 (p .z) (c .before .struct-told3 .given .1 .1 .0 .1)),
     )
 
