@@ -1,5 +1,5 @@
--- Storing a polygon keeps the geometry part's ranges, its rooms and the buffers' lengths; and what the storing functions
--- ask follows from the tests of a call. Assumes nothing.
+-- Storing a polygon keeps the ranges and the rooms of the geometry part and the buffers' lengths; and what the storing
+-- functions ask follows from the tests of a call. Assumes nothing.
 use mathlib.Core.Bool.{true, and-eq-true-iff}
 use mathlib.Core.List.{List, [], _∷_}
 use mathlib.Core.Path.{_≡_, refl, _∙_}

@@ -1,4 +1,4 @@
--- Storing a polygon only adds to the buffers: every number before the used records, and every number past those that are
+-- Storing a polygon only adds to the buffers: every number of the records in use, and every number past those that are
 -- added, is as it was. Assumes nothing.
 use mathlib.Core.List.{List, [], _∷_}
 use mathlib.Core.Path.{_≡_, refl, _∙_}

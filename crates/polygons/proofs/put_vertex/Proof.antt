@@ -49,8 +49,12 @@ loop-less c = search needs
 loop-again : tie.Need-loop-again Inv-loop μ-loop
 loop-again c =
     let a = c .before .before .before .args in
-    let wide : length (a .t3) ≡ vertexWidth = search needs in
-    (search needs, search needs, turn (a .vertices .now) (vertexWidth * a .n) (a .t3) (c .before .before .loop .i) (pos 0) _ _ (c .before .before .loop .inv .2) (toZ-ofZ (sfits-of (c .vertices .given))) (omega arith))
+    let wide : length (a .t3) ≡ vertexWidth = search needs in (
+      search needs,
+      search needs,
+      turn (a .vertices .now) (vertexWidth * a .n) (a .t3) (c .before .before .loop .i)
+          (pos 0) _ _ (c .before .before .loop .inv .2) (toZ-ofZ (sfits-of (c .vertices .given))) (omega arith),
+    )
 
 same-length : tie.Need-same-length Inv-loop μ-loop
 same-length c = search needs
