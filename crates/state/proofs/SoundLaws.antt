@@ -14,6 +14,7 @@ use Rattle.state.specs.declared.Transform.{Transform}
 use Rattle.state.specs.declared.Matrices.{Matrices}
 use Rattle.state.specs.declared.Geometry.{Geometry}
 use Rattle.state.specs.declared.Stream.{Stream}
+use Rattle.state.specs.declared.Core.{Core}
 use Rattle.state.specs.declared.Engine.{Engine}
 use Rattle.state.specs.declared.Answer.{Answer}
 use Rattle.state.specs.With.{withPair, withProjection, withTexture, withError, withMatrices, withGeometry}
@@ -81,17 +82,26 @@ pub record SoundParts (e : Engine) : Type 0 where
   pub geometry : soundGeometry (e .core .geometry) ≡ true
   pub stream : soundStream (e .stream) ≡ true
 
+pub core-parts : (c : Core) → soundCore c ≡ true
+    → (soundTransform (c .matrices .transform) ≡ true) × (soundGeometry (c .geometry) ≡ true)
+unfolding soundCore
+core-parts c h = and-eq-true-iff (soundTransform (c .matrices .transform)) (soundGeometry (c .geometry)) .0 h
+
+pub parts-core : (c : Core) → soundTransform (c .matrices .transform) ≡ true → soundGeometry (c .geometry) ≡ true
+    → soundCore c ≡ true
+unfolding soundCore
+parts-core c t g = simp (t, g)
+
 pub sound-parts : (e : Engine) → sound e ≡ true → SoundParts e
-unfolding sound soundCore
+unfolding sound
 sound-parts e h =
     let both = and-eq-true-iff (soundCore (e .core)) (soundStream (e .stream)) .0 h in
-    let core =
-    and-eq-true-iff (soundTransform (e .core .matrices .transform)) (soundGeometry (e .core .geometry)) .0 (both .0) in
+    let core = core-parts (e .core) (both .0) in
     record { transform = core .0; geometry = core .1; stream = both .1 }
 
 pub parts-sound : (e : Engine) → SoundParts e → sound e ≡ true
-unfolding sound soundCore
-parts-sound e p = simp (p .transform, p .geometry, p .stream)
+unfolding sound
+parts-sound e p = simp (parts-core (e .core) (p .transform) (p .geometry), p .stream)
 
 -- a part is replaced by a sound one
 pub matrices-kept : (e : Engine) (m : Matrices) → sound e ≡ true → soundTransform (m .transform) ≡ true
