@@ -1,77 +1,119 @@
--- Every command keeps the core sound, the rooms and the buffers' lengths. Assumes nothing.
+-- Every command keeps the record sound, the rooms and the buffers' lengths. Assumes nothing.
 use mathlib.Core.Bool.{true}
 use mathlib.Core.List.{List}
 use mathlib.Core.Path.{_≡_, refl}
 use Prim.Native.Nat.{ℕ}
+use lib.IntN.{ℤ}
 use lib.ListN.{length, getD}
-use Rattle.state.specs.declared.Matrices.{Matrices}
+use Rattle.state.specs.declared.Registers.{Registers as RegisterPart}
 use Rattle.state.specs.declared.Core.{Core}
-use Rattle.state.specs.With.{withTransform}
-use Rattle.state.specs.Sound.{soundTransform, soundCore}
-use Rattle.state.proofs.SoundLaws.{core-parts, parts-core}
+use Rattle.state.specs.declared.Engine.{Engine}
+use Rattle.state.specs.With.{withRegisters, withCore}
+use Rattle.state.specs.Sound.{soundTransform, soundGeometry, soundCore, sound}
+use Rattle.state.proofs.SoundLaws.{core-parts, parts-core, sound-parts, core-kept}
 use Rattle.state.proofs.GeometryLaws.{geometry-ranges, geometry-in-ranges}
 use Rattle.stacks.specs.Stack.{runStack}
 use Rattle.stacks.proofs.Keeps.{run-stack}
-use Rattle.transforms.specs.Command.{runMatrix}
 use Rattle.transforms.proofs.Keeps.{run-matrix}
-use Rattle.polygons.specs.Buffers.{Buffered, beside, longEnough}
-use Rattle.polygons.proofs.Keeps.{Kept}
-use Rattle.geometry.specs.Command.{runGeometry}
+use Rattle.polygons.specs.Buffers.{Buffered, buffered, beside, longEnough}
 use Rattle.geometry.proofs.Keeps.{run-geometry}
+use Rattle.execute.specs.declared.RegisterCommand.{RegisterCommand}
+use Rattle.execute.specs.declared.RegisterCommand.the-variants.{Matrix, Geometry, Carried, NoCommand}
 use Rattle.execute.specs.declared.Operation.{Operation}
-use Rattle.execute.specs.declared.Operation.the-variants.{Matrix, Stack, Geometry, Carried, NoCommand}
+use Rattle.execute.specs.declared.Operation.the-variants.{Stack, Registers}
 use Rattle.execute.specs.Operation.{operationOf}
-use Rattle.execute.specs.Execute.{withMatrices, clipOf, runOperation, execute}
+use Rattle.execute.specs.Execute.{clipOf, runRegisters, matricesOf, withMatrices, runOperation, execute}
 
--- e is what a command leaves of s
-pub record CoreKept (s e : Buffered Core) : Type 0 where
-  pub sound : soundCore (e .part) ≡ true
-  pub rooms : e .part .geometry .rooms ≡ s .part .geometry .rooms
-  pub vertices : length (e .vertices) ≡ length (s .vertices)
-  pub polygons : length (e .polygons) ≡ length (s .polygons)
+-- ---- commands that use no stack
 
-module _ (s : Buffered Core) (h : soundCore (s .part) ≡ true) where
-  nothing-changed : CoreKept s s
-  nothing-changed = record { sound = h; rooms = refl; vertices = refl; polygons = refl }
+-- e is what such a command leaves of s
+record RegistersKept (s e : Buffered RegisterPart) : Type 0 where
+  transform : soundTransform (e .part .transform) ≡ true
+  geometry : soundGeometry (e .part .geometry) ≡ true
+  rooms : e .part .geometry .rooms ≡ s .part .geometry .rooms
+  vertices : length (e .vertices) ≡ length (s .vertices)
+  polygons : length (e .polygons) ≡ length (s .polygons)
 
-  matrices-changed : (m : Matrices) → soundTransform (m .transform) ≡ true → CoreKept s (withMatrices s m)
-  matrices-changed m k =
+module _ (s : Buffered RegisterPart) (t : soundTransform (s .part .transform) ≡ true)
+    (g : soundGeometry (s .part .geometry) ≡ true) where
+  unchanged : RegistersKept s s
+  unchanged = record { transform = t; geometry = g; rooms = refl; vertices = refl; polygons = refl }
+
+  registers-kept : (k : RegisterCommand) (p : List ℕ) → RegistersKept s (runRegisters k p s)
+  unfolding runRegisters
+  registers-kept (Matrix k) p =
       record {
-        sound = parts-core (withMatrices s m .part) k (core-parts (s .part) h .1);
+        transform = run-matrix k p (s .part .transform) t;
+        geometry = g;
         rooms = refl;
         vertices = refl;
         polygons = refl;
       }
-
-  operation-kept : (k : Operation) (p : List ℕ) → CoreKept s (runOperation k p s)
-  unfolding runOperation
-  operation-kept (Matrix k) p =
-      let m = s .part .matrices in
-      matrices-changed (withTransform m (runMatrix k p (m .transform)))
-      (run-matrix k p (m .transform) (core-parts (s .part) h .0))
-  operation-kept (Stack k) p =
-      let m = s .part .matrices in
-      matrices-changed (runStack k (getD p 0 0) m) (run-stack k (getD p 0 0) m (core-parts (s .part) h .0))
-  operation-kept (Geometry k) p =
-      let parts = core-parts (s .part) h in
-      let kept = run-geometry k (getD p 0 0) (getD p 1 0) (clipOf (s .part .matrices .transform))
-      (beside s (s .part .geometry)) (geometry-ranges (s .part .geometry) (parts .1)) in
+  registers-kept (Geometry k) p =
+      let r = s .part in
+      let kept = run-geometry k (getD p 0 0) (getD p 1 0) (clipOf (r .transform)) (beside s (r .geometry))
+      (geometry-ranges (r .geometry) g) in
       record {
-        sound = parts-core _ (parts .0) (geometry-in-ranges _ (kept .ranges));
+        transform = t;
+        geometry = geometry-in-ranges _ (kept .ranges);
         rooms = kept .rooms;
         vertices = kept .vertices;
         polygons = kept .polygons;
       }
-  operation-kept Carried p = nothing-changed
-  operation-kept NoCommand p = nothing-changed
+  registers-kept Carried p = unchanged
+  registers-kept NoCommand p = unchanged
 
-  pub execute-kept : (byte : ℕ) (p : List ℕ) → CoreKept s (execute byte p s)
-  unfolding execute
-  execute-kept byte p = operation-kept (operationOf byte) p
+-- ---- every command
 
--- buffers that were long enough are
-abbrev pub isLongEnough : Buffered Core → Type 0
-isLongEnough s = longEnough (s .part .geometry .rooms) (length (s .vertices)) (length (s .polygons)) ≡ true
+-- e is what a command leaves of s
+pub record CoreKept (s e : Buffered Core) : Type 0 where
+  pub sound : soundCore (e .part) ≡ true
+  pub rooms : e .part .registers .geometry .rooms ≡ s .part .registers .geometry .rooms
+  pub vertices : length (e .vertices) ≡ length (s .vertices)
+  pub polygons : length (e .polygons) ≡ length (s .polygons)
 
-pub long-enough-kept : (s e : Buffered Core) → CoreKept s e → isLongEnough s → isLongEnough e
+operation-kept : (k : Operation) (p : List ℕ) (s : Buffered Core) → soundCore (s .part) ≡ true
+    → CoreKept s (runOperation k p s)
+unfolding runOperation
+operation-kept (Stack k) p s h =
+    let parts = core-parts (s .part) h in
+    let m = matricesOf (s .part) in
+    record {
+      sound = parts-core (withMatrices (s .part) (runStack k (getD p 0 0) m)) (run-stack k (getD p 0 0) m (parts .0))
+          (parts .1);
+      rooms = refl;
+      vertices = refl;
+      polygons = refl;
+    }
+operation-kept (Registers k) p s h =
+    let parts = core-parts (s .part) h in
+    let kept = registers-kept (beside s (s .part .registers)) (parts .0) (parts .1) k p in
+    record {
+      sound = parts-core (withRegisters (s .part) (runRegisters k p (beside s (s .part .registers)) .part))
+          (kept .transform)
+          (kept .geometry);
+      rooms = kept .rooms;
+      vertices = kept .vertices;
+      polygons = kept .polygons;
+    }
+
+pub execute-kept : (byte : ℕ) (p : List ℕ) (s : Buffered Core) → soundCore (s .part) ≡ true
+    → CoreKept s (execute byte p s)
+unfolding execute
+execute-kept byte p s h = operation-kept (operationOf byte) p s h
+
+-- the engine whose core ran it
+pub execute-sound : (byte : ℕ) (p : List ℕ) (e : Engine) (vertices : List ℤ) (polygons : List ℕ) → sound e ≡ true
+    → sound (withCore e (execute byte p (buffered (e .core) vertices polygons) .part)) ≡ true
+execute-sound byte p e vertices polygons h =
+    let s = buffered (e .core) vertices polygons in
+    let parts = sound-parts e h in
+    let core = parts-core (e .core) (parts .transform) (parts .geometry) in
+    core-kept e (execute byte p s .part) h (execute-kept byte p s core .sound)
+
+-- buffers that were long enough still are
+abbrev pub LongEnough : Buffered Core → Type 0
+LongEnough s = longEnough (s .part .registers .geometry .rooms) (length (s .vertices)) (length (s .polygons)) ≡ true
+
+pub long-enough-kept : (s e : Buffered Core) → CoreKept s e → LongEnough s → LongEnough e
 long-enough-kept s e k h = rw (k .rooms, k .vertices, k .polygons) h

@@ -5,46 +5,53 @@ use lib.IntN.{ℤ}
 use lib.ListN.{getD}
 use Rattle.matrix.specs.Matrix.{clipMatrix}
 use Rattle.state.specs.declared.Transform.{Transform}
-use Rattle.state.specs.declared.Matrices.{Matrices}
-use Rattle.state.specs.declared.Geometry.{Geometry as GeometryPart}
+use Rattle.state.specs.declared.Registers.{Registers as RegisterPart}
 use Rattle.state.specs.declared.Core.{Core}
-use Rattle.state.specs.With.{withTransform}
+use Rattle.state.specs.With.{withTransform, withGeometry, withRegisters}
+use Rattle.stacks.specs.declared.Matrices.{Matrices}
 use Rattle.stacks.specs.Stack.{runStack}
 use Rattle.transforms.specs.Command.{runMatrix}
 use Rattle.polygons.specs.Buffers.{Buffered, beside}
 use Rattle.geometry.specs.Command.{runGeometry}
+use Rattle.execute.specs.declared.RegisterCommand.{RegisterCommand}
+use Rattle.execute.specs.declared.RegisterCommand.the-variants.{Matrix, Geometry, Carried, NoCommand}
 use Rattle.execute.specs.declared.Operation.{Operation}
-use Rattle.execute.specs.declared.Operation.the-variants.{Matrix, Stack, Geometry, Carried, NoCommand}
+use Rattle.execute.specs.declared.Operation.the-variants.{Stack, Registers}
 use Rattle.execute.specs.Operation.{operationOf}
 
--- ---- a part of the core replaced
-
-abbrev pub withMatrices : Buffered Core → Matrices → Buffered Core
-withMatrices s m = beside s (record { matrices = m; geometry = s .part .geometry })
-
--- the geometry part, with the buffers as it leaves them
-abbrev pub withGeometry : Buffered Core → Buffered GeometryPart → Buffered Core
-withGeometry s e = beside e (record { matrices = s .part .matrices; geometry = e .part })
+-- ---- commands that use no stack, with their parameters p
 
 -- document 01, Matrices: "Clip matrix = position × projection"
 abbrev pub clipOf : Transform → List ℤ
 clipOf t = clipMatrix (t .pair .position) (t .projection .matrix)
 
--- ---- the command with its parameters p
-
-unfoldable pub runOperation : Operation → List ℕ → Buffered Core → Buffered Core
-runOperation (Matrix k) p s =
-    let m : Matrices = s .part .matrices in
-    withMatrices s (withTransform m (runMatrix k p (m .transform)))
-runOperation (Stack k) p s = withMatrices s (runStack k (getD p 0 0) (s .part .matrices))
-runOperation (Geometry k) p s =
-    withGeometry s
-    (runGeometry k (getD p 0 0) (getD p 1 0) (clipOf (s .part .matrices .transform)) (beside s (s .part .geometry)))
+unfoldable pub runRegisters : RegisterCommand → List ℕ → Buffered RegisterPart → Buffered RegisterPart
+runRegisters (Matrix k) p s = beside s (withTransform (s .part) (runMatrix k p (s .part .transform)))
+runRegisters (Geometry k) p s =
+    let r : RegisterPart = s .part in
+    let e = runGeometry k (getD p 0 0) (getD p 1 0) (clipOf (r .transform)) (beside s (r .geometry)) in
+    beside e (withGeometry r (e .part))
 -- "only carried: commands 21h, 22h, 2Ah, 2Bh, 30h to 34h, 60h and 70h to 72h take their parameters and change nothing
 -- else"
-runOperation Carried p s = s
+runRegisters Carried p s = s
 -- "Any other byte counts as 0, no command"
-runOperation NoCommand p s = s
+runRegisters NoCommand p s = s
+
+-- ---- every command
+
+-- the core's matrices with its stacks
+abbrev pub matricesOf : Core → Matrices
+matricesOf c = record { transform = c .registers .transform; stacks = c .stacks }
+
+abbrev pub withMatrices : Core → Matrices → Core
+withMatrices c m = record { registers = withTransform (c .registers) (m .transform); stacks = m .stacks }
+
+unfoldable pub runOperation : Operation → List ℕ → Buffered Core → Buffered Core
+runOperation (Stack k) p s =
+    beside s (withMatrices (s .part) (runStack k (getD p 0 0) (matricesOf (s .part))))
+runOperation (Registers k) p s =
+    let e = runRegisters k p (beside s (s .part .registers)) in
+    beside e (withRegisters (s .part) (e .part))
 
 unfoldable pub execute : ℕ → List ℕ → Buffered Core → Buffered Core
 execute byte p s = runOperation (operationOf byte) p s

@@ -3,27 +3,34 @@ ghost use mathlib.Core.Path.{_≡_};
 ghost use mathlib.Core.Bool.{true};
 ghost use lib.ListN.{length};
 ghost use Rattle.commands.specs.Commands.{among};
-ghost use Rattle.state.specs.Sound.{soundCore};
+ghost use Rattle.state.specs.Sound.{soundGeometry, soundCore};
+ghost use Rattle.stacks.specs.Stack.{runStack};
 ghost use Rattle.polygons.specs.Buffers.{buffered, longEnough};
-ghost use Rattle.execute.specs.Operation.{carried, otherOperation, operationOf};
-ghost use Rattle.execute.specs.Execute.{runOperation, execute};
+ghost use Rattle.execute.specs.Operation.{carried, otherCommand, registerCommandOf, operationOf};
+ghost use Rattle.execute.specs.Execute.{runRegisters, matricesOf, withMatrices, execute};
 use geometry::GeometryCommand;
 use geometry::run_geometry;
 use positions::PositionCommand;
+use stacks::Matrices;
 use stacks::StackCommand;
 use stacks::run_stack;
 use state::Core;
-use state::Matrices;
+use state::Registers;
 use transforms::MatrixCommand;
 use transforms::run_matrix;
 
-// What a byte asks for. The carried commands take their parameters and change nothing.
-pub enum Operation {
+// A command that uses no stack. The carried ones take their parameters and change nothing.
+pub enum RegisterCommand {
     Matrix(MatrixCommand),
-    Stack(StackCommand),
     Geometry(GeometryCommand),
     Carried,
     NoCommand,
+}
+
+// A command, decoded from its byte.
+pub enum Operation {
+    Stack(StackCommand),
+    Registers(RegisterCommand),
 }
 
 // The commands that are only carried.
@@ -45,80 +52,81 @@ fn is_carried(byte: u8) -> bool
         | (byte == 0x72)
 }
 
-// A byte that names no command which does something.
-fn other_operation(byte: u8) -> Operation
-    ensures { λ r. ⌜ r ≡ otherOperation byte ⌝ }
+fn other_command(byte: u8) -> RegisterCommand
+    ensures { λ r. ⌜ r ≡ otherCommand byte ⌝ }
 {
     if is_carried(byte) {
-        Operation::Carried
+        RegisterCommand::Carried
     } else {
-        Operation::NoCommand
+        RegisterCommand::NoCommand
     }
 }
 
-// The operation of a byte.
-fn operation_of(byte: u8) -> Operation
+fn register_command_of(byte: u8) -> RegisterCommand
+    ensures { λ r. ⌜ r ≡ registerCommandOf byte ⌝ }
+{
+    match byte {
+        0x10 => RegisterCommand::Matrix(MatrixCommand::Mode),
+        0x15 => RegisterCommand::Matrix(MatrixCommand::Identity),
+        0x16 => RegisterCommand::Matrix(MatrixCommand::Load4x4),
+        0x17 => RegisterCommand::Matrix(MatrixCommand::Load4x3),
+        0x18 => RegisterCommand::Matrix(MatrixCommand::Multiply4x4),
+        0x19 => RegisterCommand::Matrix(MatrixCommand::Multiply4x3),
+        0x1a => RegisterCommand::Matrix(MatrixCommand::Multiply3x3),
+        0x1b => RegisterCommand::Matrix(MatrixCommand::Scale),
+        0x1c => RegisterCommand::Matrix(MatrixCommand::Translate),
+        0x20 => RegisterCommand::Geometry(GeometryCommand::Colour),
+        0x23 => RegisterCommand::Geometry(GeometryCommand::Position(PositionCommand::Vtx16)),
+        0x24 => RegisterCommand::Geometry(GeometryCommand::Position(PositionCommand::Vtx10)),
+        0x25 => RegisterCommand::Geometry(GeometryCommand::Position(PositionCommand::VtxXy)),
+        0x26 => RegisterCommand::Geometry(GeometryCommand::Position(PositionCommand::VtxXz)),
+        0x27 => RegisterCommand::Geometry(GeometryCommand::Position(PositionCommand::VtxYz)),
+        0x28 => RegisterCommand::Geometry(GeometryCommand::Position(PositionCommand::VtxDiff)),
+        0x29 => RegisterCommand::Geometry(GeometryCommand::Attributes),
+        0x40 => RegisterCommand::Geometry(GeometryCommand::Begin),
+        0x41 => RegisterCommand::Geometry(GeometryCommand::End),
+        0x50 => RegisterCommand::Geometry(GeometryCommand::Swap),
+        _ => other_command(byte),
+    }
+}
+
+// What a byte asks for.
+pub fn operation_of(byte: u8) -> Operation
     ensures { λ r. ⌜ r ≡ operationOf byte ⌝ }
 {
     match byte {
-        0x10 => Operation::Matrix(MatrixCommand::Mode),
         0x11 => Operation::Stack(StackCommand::Push),
         0x12 => Operation::Stack(StackCommand::Pop),
         0x13 => Operation::Stack(StackCommand::Store),
         0x14 => Operation::Stack(StackCommand::Restore),
-        0x15 => Operation::Matrix(MatrixCommand::Identity),
-        0x16 => Operation::Matrix(MatrixCommand::Load4x4),
-        0x17 => Operation::Matrix(MatrixCommand::Load4x3),
-        0x18 => Operation::Matrix(MatrixCommand::Multiply4x4),
-        0x19 => Operation::Matrix(MatrixCommand::Multiply4x3),
-        0x1a => Operation::Matrix(MatrixCommand::Multiply3x3),
-        0x1b => Operation::Matrix(MatrixCommand::Scale),
-        0x1c => Operation::Matrix(MatrixCommand::Translate),
-        0x20 => Operation::Geometry(GeometryCommand::Colour),
-        0x23 => Operation::Geometry(GeometryCommand::Position(PositionCommand::Vtx16)),
-        0x24 => Operation::Geometry(GeometryCommand::Position(PositionCommand::Vtx10)),
-        0x25 => Operation::Geometry(GeometryCommand::Position(PositionCommand::VtxXy)),
-        0x26 => Operation::Geometry(GeometryCommand::Position(PositionCommand::VtxXz)),
-        0x27 => Operation::Geometry(GeometryCommand::Position(PositionCommand::VtxYz)),
-        0x28 => Operation::Geometry(GeometryCommand::Position(PositionCommand::VtxDiff)),
-        0x29 => Operation::Geometry(GeometryCommand::Attributes),
-        0x40 => Operation::Geometry(GeometryCommand::Begin),
-        0x41 => Operation::Geometry(GeometryCommand::End),
-        0x50 => Operation::Geometry(GeometryCommand::Swap),
-        _ => other_operation(byte),
+        _ => Operation::Registers(register_command_of(byte)),
     }
 }
 
-fn run_operation(
-    core: Core,
-    operation: Operation,
+// A command that uses no stack. For the crate above this one: numbers 1 and 2 do not fall.
+pub fn run_registers(
+    r: Registers,
+    command: RegisterCommand,
     p: [u32; 32],
     vertices: &mut [i32],
     polygons: &mut [u32],
-) -> Core
-    requires { ⌜ soundCore core ≡ true ⌝ }
-    requires { ⌜ longEnough (core .geometry .rooms) (length (now vertices)) (length (now polygons)) ≡ true ⌝ }
-    ensures { λ r. ⌜ buffered r (now (vertices .exit)) (now (polygons .exit))
-        ≡ runOperation operation p (buffered core (now (vertices .entry)) (now (polygons .entry))) ⌝ }
+) -> Registers
+    requires { ⌜ soundGeometry (r .geometry) ≡ true ⌝ }
+    requires { ⌜ longEnough (r .geometry .rooms) (length (now vertices)) (length (now polygons)) ≡ true ⌝ }
+    ensures { λ e. ⌜ buffered e (now (vertices .exit)) (now (polygons .exit))
+        ≡ runRegisters command p (buffered r (now (vertices .entry)) (now (polygons .entry))) ⌝ }
 {
-    let mut n = core;
-    match operation {
-        Operation::Matrix(k) => {
-            let t = core.matrices.transform;
-            let mut m = core.matrices;
-            m.transform = run_matrix(t, k, p);
-            n.matrices = m;
+    let mut n = r;
+    match command {
+        RegisterCommand::Matrix(k) => {
+            let t = r.transform;
+            n.transform = run_matrix(t, k, p);
             n
         }
-        Operation::Stack(k) => {
-            let m = core.matrices;
-            n.matrices = run_stack(m, k, p[0]);
-            n
-        }
-        Operation::Geometry(k) => {
-            let g = core.geometry;
-            let position = core.matrices.transform.pair.position;
-            let projection = core.matrices.transform.projection.matrix;
+        RegisterCommand::Geometry(k) => {
+            let g = r.geometry;
+            let position = r.transform.pair.position;
+            let projection = r.transform.projection.matrix;
             n.geometry = run_geometry(
                 g,
                 k,
@@ -131,8 +139,33 @@ fn run_operation(
             );
             n
         }
-        Operation::Carried => core,
-        Operation::NoCommand => core,
+        RegisterCommand::Carried => r,
+        RegisterCommand::NoCommand => r,
+    }
+}
+
+// A stack command with its parameter. For the crate above this one: number 1 does not fall.
+pub fn run_stacks(core: Core, command: StackCommand, p: u32) -> Core
+    requires { ⌜ soundCore core ≡ true ⌝ }
+    ensures { λ r. ⌜ r ≡ withMatrices core (runStack command p (matricesOf core)) ⌝ }
+{
+    let transform = core.registers.transform;
+    let stacks = core.stacks;
+    let m = run_stack(
+        Matrices {
+            transform: transform,
+            stacks: stacks,
+        },
+        command,
+        p,
+    );
+    let mut registers = core.registers;
+    let moved = m.transform;
+    registers.transform = moved;
+    let all = m.stacks;
+    Core {
+        registers: registers,
+        stacks: all,
     }
 }
 
@@ -145,10 +178,18 @@ pub fn execute(
     polygons: &mut [u32],
 ) -> Core
     requires { ⌜ soundCore core ≡ true ⌝ }
-    requires { ⌜ longEnough (core .geometry .rooms) (length (now vertices)) (length (now polygons)) ≡ true ⌝ }
+    requires { ⌜ longEnough (core .registers .geometry .rooms) (length (now vertices)) (length (now polygons)) ≡ true ⌝ }
     ensures { λ r. ⌜ buffered r (now (vertices .exit)) (now (polygons .exit))
         ≡ execute byte p (buffered core (now (vertices .entry)) (now (polygons .entry))) ⌝ }
 {
     let operation = operation_of(byte);
-    run_operation(core, operation, p, &mut *vertices, &mut *polygons)
+    match operation {
+        Operation::Stack(k) => run_stacks(core, k, p[0]),
+        Operation::Registers(k) => {
+            let r = core.registers;
+            let mut n = core;
+            n.registers = run_registers(r, k, p, &mut *vertices, &mut *polygons);
+            n
+        }
+    }
 }

@@ -16,7 +16,7 @@ use Rattle.state.specs.declared.Geometry.{Geometry}
 use Rattle.state.specs.With.{withColour, withGiven, withPosition, withWaiting}
 use Rattle.state.specs.Sound.{isClosed, needed, fewWait, coloured}
 use Rattle.state.proofs.SoundLaws.{cond-case}
-use Rattle.state.proofs.GeometryLaws.{WaitingRanges, GeometryRanges, fewer, at-most-3}
+use Rattle.state.proofs.GeometryLaws.{WaitingRanges, GeometryRanges, fewer}
 use Rattle.positions.specs.Position.{positionAfter}
 use Rattle.polygons.specs.Buffers.{Buffered, beside}
 use Rattle.polygons.specs.Records.{vertexRecord}

@@ -5,9 +5,9 @@ use native.Mathlib.Omega.{arith}
 use Rattle.state.specs.declared.Transform.{Transform}
 use Rattle.state.specs.declared.Geometry.{Geometry}
 use Rattle.state.specs.declared.Engine.{Engine}
-use Rattle.state.specs.With.{withOverflow, withTransform}
+use Rattle.state.specs.With.{withOverflow, withTransform, withGeometry, withRegisters}
 use Rattle.state.specs.Sound.{soundGeometry, sound}
-use Rattle.state.proofs.SoundLaws.{Ranges, ranges, in-ranges, sound-parts, matrices-kept, geometry-kept}
+use Rattle.state.proofs.SoundLaws.{Ranges, ranges, in-ranges, sound-parts, parts-core, core-kept}
 use Rattle.registers.specs.Registers.{errorCleared, clearError, clearOverflow}
 
 error-in : (t : Transform) → Ranges t → Ranges (errorCleared t)
@@ -21,13 +21,17 @@ overflow-in g h = h
 pub clear-error : (e : Engine) → sound e ≡ true → sound (clearError e .engine) ≡ true
 unfolding clearError
 clear-error e h =
-    let t = e .core .matrices .transform in
+    let t = e .core .registers .transform in
+    let c = withRegisters (e .core) (withTransform (e .core .registers) (errorCleared t)) in
+    let parts = sound-parts e h in
     rw h
-    (matrices-kept e (withTransform (e .core .matrices) (errorCleared t)) h
-    (in-ranges (errorCleared t) (error-in t (ranges t (sound-parts e h .transform)))))
+    (core-kept e c h
+    (parts-core c (in-ranges (errorCleared t) (error-in t (ranges t (parts .transform)))) (parts .geometry)))
 
 pub clear-overflow : (e : Engine) → sound e ≡ true → sound (clearOverflow e .engine) ≡ true
 unfolding clearOverflow
 clear-overflow e h =
-    let g = e .core .geometry in
-    rw h (geometry-kept e (withOverflow g false) h (overflow-in g (sound-parts e h .geometry)))
+    let g = e .core .registers .geometry in
+    let c = withRegisters (e .core) (withGeometry (e .core .registers) (withOverflow g false)) in
+    let parts = sound-parts e h in
+    rw h (core-kept e c h (parts-core c (parts .transform) (overflow-in g (parts .geometry))))

@@ -8,10 +8,11 @@ use lib.IntN.{ℤ}
 use Rattle.matrix.specs.Matrix.{at, clipMatrix}
 use Rattle.state.specs.declared.Single.{Single}
 use Rattle.state.specs.declared.Transform.{Transform}
+use Rattle.state.specs.declared.Registers.{Registers}
 use Rattle.state.specs.declared.Engine.{Engine}
 use Rattle.state.specs.declared.Answer.{Answer}
-use Rattle.state.specs.With.{withProjection, withError, withTransform, withMatrices, withOverflow, withGeometry}
-use Rattle.state.specs.With.{answered}
+use Rattle.state.specs.With.{withProjection, withError, withOverflow, withTransform, withGeometry, withRegisters}
+use Rattle.state.specs.With.{withCore, answered}
 use Rattle.state.specs.Fresh.{zeros}
 use Rattle.state.specs.Sound.{sound}
 use Rattle.registers.specs.declared.StatusAnswer.{StatusAnswer}
@@ -20,7 +21,7 @@ use Rattle.registers.specs.declared.CornerAnswer.{CornerAnswer}
 use Rattle.registers.specs.declared.FlagAnswer.{FlagAnswer}
 
 abbrev transformOf : Engine → Transform
-transformOf e = e .core .matrices .transform
+transformOf e = e .core .registers .transform
 
 -- ---- reading
 
@@ -53,7 +54,7 @@ readVectorMatrix e =
 -- document 01, Vertices and polygons: "the overflow flag (DISP3DCNT bit 13)"
 unfoldable pub readOverflow : Engine → FlagAnswer
 readOverflow e =
-    cond (sound e) (record { number = 0; place = 0; flag = e .core .geometry .overflow })
+    cond (sound e) (record { number = 0; place = 0; flag = e .core .registers .geometry .overflow })
     (record { number = 1; place = 0; flag = false })
 
 -- ---- clearing
@@ -66,10 +67,11 @@ errorCleared t =
 
 unfoldable pub clearError : Engine → Answer
 clearError e =
-    let cleared : Engine = withMatrices e (withTransform (e .core .matrices) (errorCleared (transformOf e))) in
-    cond (sound e) (answered 0 cleared) (answered 1 e)
+    let r : Registers = withTransform (e .core .registers) (errorCleared (transformOf e)) in
+    cond (sound e) (answered 0 (withCore e (withRegisters (e .core) r))) (answered 1 e)
 
 -- document 01, Vertices and polygons: "The flag stays until cleared."
 unfoldable pub clearOverflow : Engine → Answer
 clearOverflow e =
-    cond (sound e) (answered 0 (withGeometry e (withOverflow (e .core .geometry) false))) (answered 1 e)
+    let r : Registers = withGeometry (e .core .registers) (withOverflow (e .core .registers .geometry) false) in
+    cond (sound e) (answered 0 (withCore e (withRegisters (e .core) r))) (answered 1 e)

@@ -53,7 +53,7 @@ fn status_word(t: Transform) -> u32
 pub fn status(e: Engine) -> StatusAnswer
     ensures { λ r. ⌜ r ≡ readStatus e ⌝ }
 {
-    let t = e.core.matrices.transform;
+    let t = e.core.registers.transform;
     if is_sound(e) {
         StatusAnswer {
             number: 0,
@@ -73,7 +73,7 @@ pub fn status(e: Engine) -> StatusAnswer
 pub fn clip_matrix(e: Engine) -> MatrixAnswer
     ensures { λ r. ⌜ r ≡ readClipMatrix e ⌝ }
 {
-    let t = e.core.matrices.transform;
+    let t = e.core.registers.transform;
     let position = t.pair.position;
     let projection = t.projection.matrix;
     if is_sound(e) {
@@ -101,7 +101,7 @@ fn corner_of(m: [i32; 16]) -> [i32; 9]
 pub fn vector_matrix(e: Engine) -> CornerAnswer
     ensures { λ r. ⌜ r ≡ readVectorMatrix e ⌝ }
 {
-    let t = e.core.matrices.transform;
+    let t = e.core.registers.transform;
     let vector = t.pair.vector;
     if is_sound(e) {
         CornerAnswer {
@@ -126,7 +126,7 @@ pub fn overflow(e: Engine) -> FlagAnswer
         FlagAnswer {
             number: 0,
             place: 0,
-            flag: e.core.geometry.overflow,
+            flag: e.core.registers.geometry.overflow,
         }
     } else {
         FlagAnswer {
@@ -154,10 +154,10 @@ pub fn clear_error(e: Engine) -> Answer
 {
     if is_sound(e) {
         let mut core = e.core;
-        let mut m = core.matrices;
-        let t = m.transform;
-        m.transform = error_cleared(t);
-        core.matrices = m;
+        let mut r = core.registers;
+        let t = r.transform;
+        r.transform = error_cleared(t);
+        core.registers = r;
         let mut n = e;
         n.core = core;
         answered(0, n)
@@ -180,8 +180,10 @@ pub fn clear_overflow(e: Engine) -> Answer
 {
     if is_sound(e) {
         let mut core = e.core;
-        let g = core.geometry;
-        core.geometry = overflow_cleared(g);
+        let mut r = core.registers;
+        let g = r.geometry;
+        r.geometry = overflow_cleared(g);
+        core.registers = r;
         let mut n = e;
         n.core = core;
         answered(0, n)

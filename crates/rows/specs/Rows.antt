@@ -11,12 +11,14 @@ use Rattle.commands.specs.declared.Count.the-variants.{Takes, Unknown}
 use Rattle.commands.specs.Commands.{commandRows, lookup, known, count, counted, commandBytes}
 use Rattle.matrix.specs.Matrix.{entry, rowBy, mul, unit, scaleMatrix, at, one}
 use Rattle.stream.specs.Pending.{commandsOf, soundPending}
+use Rattle.state.specs.declared.Core.{Core}
 use Rattle.state.specs.declared.Stream.{Stream}
-use Rattle.state.specs.declared.Matrices.{Matrices}
-use Rattle.state.specs.With.{withPair, withTransform, failed}
+use Rattle.state.specs.With.{withPair}
 use Rattle.state.specs.Fresh.{zeros, freshTransform, fresh}
 use Rattle.state.specs.Sound.{pendingOf, soundStream}
+use Rattle.stacks.specs.declared.Matrices.{Matrices}
 use Rattle.stacks.specs.declared.StackCommand.the-variants.{Push, Pop, Store}
+use Rattle.stacks.specs.Matrices.{withTransform, failed}
 use Rattle.stacks.specs.Slot.{slotAt}
 use Rattle.stacks.specs.Stack.{level, target, stored, loaded, pushPair, popPair, storePair, runStack}
 use Rattle.transforms.specs.declared.MatrixCommand.the-variants.{Mode}
@@ -51,7 +53,9 @@ streamOf queue n dummy port =
 
 -- the fresh matrices in mode 1
 abbrev inMode1 : Matrices
-inMode1 = let m : Matrices = fresh .core .matrices in withTransform m (runMatrix Mode (1 ∷ []) (m .transform))
+inMode1 =
+    let c : Core = fresh .core in
+    record { transform = runMatrix Mode (1 ∷ []) (c .registers .transform); stacks = c .stacks }
 
 -- the same with position level 31
 abbrev atLevel31 : Matrices

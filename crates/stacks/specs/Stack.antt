@@ -8,11 +8,12 @@ use Rattle.lowbits.specs.Bits.{signedLow}
 use Rattle.state.specs.declared.Pair.{Pair}
 use Rattle.state.specs.declared.Single.{Single}
 use Rattle.state.specs.declared.Stacks.{Stacks}
-use Rattle.state.specs.declared.Matrices.{Matrices}
-use Rattle.state.specs.With.{withPair, withTransform, failed}
+use Rattle.state.specs.With.{withPair}
 use Rattle.state.specs.Mode.{usesPair, single, withSingle}
+use Rattle.stacks.specs.declared.Matrices.{Matrices}
 use Rattle.stacks.specs.declared.StackCommand.{StackCommand}
 use Rattle.stacks.specs.declared.StackCommand.the-variants.{Push, Pop, Store, Restore}
+use Rattle.stacks.specs.Matrices.{withTransform, failed}
 use Rattle.stacks.specs.Slot.{setSlot, slotAt}
 
 -- every stack command that can be an error ends here: it makes `moved` of m where it is allowed; else, "An error sets

@@ -11,14 +11,11 @@ use Rattle.stream.specs.Pending.{isPending, commandsOf, soundPending}
 use Rattle.state.specs.declared.Pair.{Pair}
 use Rattle.state.specs.declared.Single.{Single}
 use Rattle.state.specs.declared.Transform.{Transform}
-use Rattle.state.specs.declared.Matrices.{Matrices}
-use Rattle.state.specs.declared.Geometry.{Geometry}
 use Rattle.state.specs.declared.Stream.{Stream}
 use Rattle.state.specs.declared.Core.{Core}
 use Rattle.state.specs.declared.Engine.{Engine}
 use Rattle.state.specs.declared.Answer.{Answer}
-use Rattle.state.specs.With.{withPair, withProjection, withTexture, withError, withMatrices, withGeometry}
-use Rattle.state.specs.With.{withRooms, answered}
+use Rattle.state.specs.With.{withPair, withProjection, withTexture, withError, withCore, withRooms, answered}
 use Rattle.state.specs.Mode.{single, withSingle}
 use Rattle.state.specs.Fresh.{freshTransform, freshGeometry, freshStream, fresh, roomsAllowed, start}
 use Rattle.state.specs.Sound.{soundTransform, soundWaiting, soundGeometry, soundCore, pendingOf, soundStream}
@@ -78,16 +75,18 @@ module _ (t : Transform) (r : Ranges t) where
 -- ---- the parts of a sound record
 
 pub record SoundParts (e : Engine) : Type 0 where
-  pub transform : soundTransform (e .core .matrices .transform) ≡ true
-  pub geometry : soundGeometry (e .core .geometry) ≡ true
+  pub transform : soundTransform (e .core .registers .transform) ≡ true
+  pub geometry : soundGeometry (e .core .registers .geometry) ≡ true
   pub stream : soundStream (e .stream) ≡ true
 
 pub core-parts : (c : Core) → soundCore c ≡ true
-    → (soundTransform (c .matrices .transform) ≡ true) × (soundGeometry (c .geometry) ≡ true)
+    → (soundTransform (c .registers .transform) ≡ true) × (soundGeometry (c .registers .geometry) ≡ true)
 unfolding soundCore
-core-parts c h = and-eq-true-iff (soundTransform (c .matrices .transform)) (soundGeometry (c .geometry)) .0 h
+core-parts c h =
+    and-eq-true-iff (soundTransform (c .registers .transform)) (soundGeometry (c .registers .geometry)) .0 h
 
-pub parts-core : (c : Core) → soundTransform (c .matrices .transform) ≡ true → soundGeometry (c .geometry) ≡ true
+pub parts-core : (c : Core) → soundTransform (c .registers .transform) ≡ true → soundGeometry
+(c .registers .geometry) ≡ true
     → soundCore c ≡ true
 unfolding soundCore
 parts-core c t g = simp (t, g)
@@ -103,18 +102,11 @@ pub parts-sound : (e : Engine) → SoundParts e → sound e ≡ true
 unfolding sound
 parts-sound e p = simp (parts-core (e .core) (p .transform) (p .geometry), p .stream)
 
--- a part is replaced by a sound one
-pub matrices-kept : (e : Engine) (m : Matrices) → sound e ≡ true → soundTransform (m .transform) ≡ true
-    → sound (withMatrices e m) ≡ true
-matrices-kept e m h k =
-    let p = sound-parts e h in
-    parts-sound (withMatrices e m) (record { transform = k; geometry = p .geometry; stream = p .stream })
-
-pub geometry-kept : (e : Engine) (g : Geometry) → sound e ≡ true → soundGeometry g ≡ true
-    → sound (withGeometry e g) ≡ true
-geometry-kept e g h k =
-    let p = sound-parts e h in
-    parts-sound (withGeometry e g) (record { transform = p .transform; geometry = k; stream = p .stream })
+-- a sound core is put in
+pub core-kept : (e : Engine) (c : Core) → sound e ≡ true → soundCore c ≡ true → sound (withCore e c) ≡ true
+core-kept e c h k =
+    let parts = core-parts c k in
+    parts-sound (withCore e c) (record { transform = parts .0; geometry = parts .1; stream = sound-parts e h .stream })
 
 -- ---- fresh and start
 
@@ -123,13 +115,16 @@ unfolding sound soundCore soundTransform soundGeometry soundWaiting soundStream 
     commandsOf commandBytes counted known lookup commandRows freshTransform freshGeometry freshStream fresh
 fresh-sound = refl
 
-rooms-geometry : (v p : ℕ) → roomsAllowed v p ≡ true → soundGeometry (withRooms fresh v p .core .geometry) ≡ true
+rooms-geometry : (v p : ℕ) → roomsAllowed v p ≡ true → soundGeometry
+(withRooms fresh v p .core .registers .geometry) ≡ true
 unfolding withRooms fresh freshGeometry soundGeometry soundWaiting
 rooms-geometry v p h = simp (h, le-leb 0 v (omega arith), le-leb 0 p (omega arith))
 
 rooms-kept : (v p : ℕ) → roomsAllowed v p ≡ true → sound (withRooms fresh v p) ≡ true
 unfolding withRooms
-rooms-kept v p h = geometry-kept fresh (withRooms fresh v p .core .geometry) fresh-sound (rooms-geometry v p h)
+rooms-kept v p h =
+    core-kept fresh (withRooms fresh v p .core) fresh-sound
+    (parts-core (withRooms fresh v p .core) (sound-parts fresh fresh-sound .transform) (rooms-geometry v p h))
 
 -- a start answers with a sound engine, refused or not
 pub start-sound : (v p : ℕ) → sound (start v p .engine) ≡ true

@@ -58,8 +58,8 @@ unfoldable pub fresh : Engine
 fresh =
     record {
       core = record {
-        matrices = record { transform = freshTransform; stacks = freshStacks };
-        geometry = freshGeometry;
+        registers = record { transform = freshTransform; geometry = freshGeometry };
+        stacks = freshStacks;
       };
       stream = freshStream;
     }

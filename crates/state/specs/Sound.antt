@@ -68,7 +68,7 @@ soundGeometry g =
     && leb (g .used .polygons) (g .rooms .polygons)
 
 unfoldable pub soundCore : Core → Bool
-soundCore c = soundTransform (c .matrices .transform) && soundGeometry (c .geometry)
+soundCore c = soundTransform (c .registers .transform) && soundGeometry (c .registers .geometry)
 
 -- what is pending in a stream: the commands of the rest of its word, and as many parameters as are held
 unfoldable pub pendingOf : Stream → Pending

@@ -1,16 +1,17 @@
 -- Parts of the record with one field changed, and what calls answer. Assumes nothing.
-use mathlib.Core.Bool.{Bool, true}
+use mathlib.Core.Bool.{Bool}
 use mathlib.Core.List.{List}
 use Prim.Native.Nat.{ℕ}
 use lib.IntN.{ℤ}
 use Rattle.state.specs.declared.Pair.{Pair}
 use Rattle.state.specs.declared.Single.{Single}
 use Rattle.state.specs.declared.Transform.{Transform}
-use Rattle.state.specs.declared.Matrices.{Matrices}
 use Rattle.state.specs.declared.Coordinates.{Coordinates}
 use Rattle.state.specs.declared.Waiting.{Waiting}
 use Rattle.state.specs.declared.Counts.{Counts}
 use Rattle.state.specs.declared.Geometry.{Geometry}
+use Rattle.state.specs.declared.Registers.{Registers}
+use Rattle.state.specs.declared.Core.{Core}
 use Rattle.state.specs.declared.Engine.{Engine}
 use Rattle.state.specs.declared.Answer.{Answer}
 
@@ -33,13 +34,6 @@ withMode t n = record { pair = t .pair; projection = t .projection; texture = t 
 
 abbrev pub withError : Transform → Bool → Transform
 withError t b = record { pair = t .pair; projection = t .projection; texture = t .texture; mode = t .mode; error = b }
-
-abbrev pub withTransform : Matrices → Transform → Matrices
-withTransform m t = record { transform = t; stacks = m .stacks }
-
--- the error flag is set, and nothing else is changed
-abbrev pub failed : Matrices → Matrices
-failed m = withTransform m (withError (m .transform) true)
 
 -- ---- vertices and polygons
 
@@ -79,19 +73,27 @@ withOverflow g b = geometry (g .colour) (g .given) (g .attributes) (g .position)
 
 -- ---- the engine
 
-abbrev pub withMatrices : Engine → Matrices → Engine
-withMatrices e m = record { core = record { matrices = m; geometry = e .core .geometry }; stream = e .stream }
+abbrev pub withTransform : Registers → Transform → Registers
+withTransform r t = record { transform = t; geometry = r .geometry }
 
-abbrev pub withGeometry : Engine → Geometry → Engine
-withGeometry e g = record { core = record { matrices = e .core .matrices; geometry = g }; stream = e .stream }
+abbrev pub withGeometry : Registers → Geometry → Registers
+withGeometry r g = record { transform = r .transform; geometry = g }
+
+abbrev pub withRegisters : Core → Registers → Core
+withRegisters c r = record { registers = r; stacks = c .stacks }
+
+abbrev pub withCore : Engine → Core → Engine
+withCore e c = record { core = c; stream = e .stream }
 
 -- the same engine with these rooms
 unfoldable pub withRooms : Engine → ℕ → ℕ → Engine
 withRooms e vertices polygons =
-    let g : Geometry = e .core .geometry in
+    let g : Geometry = e .core .registers .geometry in
     let rooms : Counts = record { vertices = vertices; polygons = polygons } in
-    withGeometry e
-    (geometry (g .colour) (g .given) (g .attributes) (g .position) (g .waiting) (g .used) rooms (g .overflow))
+    withCore e
+    (withRegisters (e .core)
+    (withGeometry (e .core .registers)
+    (geometry (g .colour) (g .given) (g .attributes) (g .position) (g .waiting) (g .used) rooms (g .overflow))))
 
 -- ---- what a call answers
 

@@ -46,11 +46,6 @@ pub struct Stacks {
     pub vectors: [i32; 496],
 }
 
-pub struct Matrices {
-    pub transform: Transform,
-    pub stacks: Stacks,
-}
-
 // The vertex position.
 pub struct Coordinates {
     pub x: i16,
@@ -100,10 +95,16 @@ pub struct Geometry {
     pub overflow: bool,
 }
 
+// All that a command can touch but the two long stacks.
+pub struct Registers {
+    pub transform: Transform,
+    pub geometry: Geometry,
+}
+
 // What the two sides of demand 3 are compared in, and the rooms.
 pub struct Core {
-    pub matrices: Matrices,
-    pub geometry: Geometry,
+    pub registers: Registers,
+    pub stacks: Stacks,
 }
 
 // The command stream between two calls. `queue` is the rest of the packed command word, its next command lowest; `held`
@@ -217,10 +218,12 @@ fn with_rooms(e: Engine, vertices: usize, polygons: usize) -> Engine
         vertices: vertices,
         polygons: polygons,
     };
-    let mut geometry = e.core.geometry;
+    let mut registers = e.core.registers;
+    let mut geometry = registers.geometry;
     geometry.rooms = rooms;
+    registers.geometry = geometry;
     let mut core = e.core;
-    core.geometry = geometry;
+    core.registers = registers;
     let mut n = e;
     n.core = core;
     n
@@ -236,14 +239,14 @@ impl Engine {
             positions: [0; 496],
             vectors: [0; 496],
         };
-        let matrices = Matrices {
-            transform: transform,
-            stacks: stacks,
-        };
         let geometry = fresh_geometry();
-        let core = Core {
-            matrices: matrices,
+        let registers = Registers {
+            transform: transform,
             geometry: geometry,
+        };
+        let core = Core {
+            registers: registers,
+            stacks: stacks,
         };
         let stream = fresh_stream();
         Engine {
@@ -375,8 +378,8 @@ pub fn is_sound_in(table: &[u8; 256], e: Engine) -> bool
     requires { ⌜ now table ≡ parameterTable ⌝ }
     ensures { λ r. ⌜ r ≡ sound e ⌝ }
 {
-    let t = e.core.matrices.transform;
-    let g = e.core.geometry;
+    let t = e.core.registers.transform;
+    let g = e.core.registers.geometry;
     let s = e.stream;
     is_sound_transform(t) & is_sound_geometry(g) & is_sound_stream(table, s)
 }
