@@ -178,7 +178,8 @@ pub fn execute(
     polygons: &mut [u32],
 ) -> Core
     requires { ⌜ soundCore core ≡ true ⌝ }
-    requires { ⌜ longEnough (core .registers .geometry .rooms) (length (now vertices)) (length (now polygons)) ≡ true ⌝ }
+    requires { ⌜ longEnough (core .registers .geometry .rooms) (length (now vertices)) (length (now polygons))
+        ≡ true ⌝ }
     ensures { λ r. ⌜ buffered r (now (vertices .exit)) (now (polygons .exit))
         ≡ execute byte p (buffered core (now (vertices .entry)) (now (polygons .entry))) ⌝ }
 {

@@ -85,9 +85,8 @@ unfolding soundCore
 core-parts c h =
     and-eq-true-iff (soundTransform (c .registers .transform)) (soundGeometry (c .registers .geometry)) .0 h
 
-pub parts-core : (c : Core) → soundTransform (c .registers .transform) ≡ true → soundGeometry
-(c .registers .geometry) ≡ true
-    → soundCore c ≡ true
+pub parts-core : (c : Core) → soundTransform (c .registers .transform) ≡ true
+    → soundGeometry (c .registers .geometry) ≡ true → soundCore c ≡ true
 unfolding soundCore
 parts-core c t g = simp (t, g)
 
@@ -115,8 +114,8 @@ unfolding sound soundCore soundTransform soundGeometry soundWaiting soundStream 
     commandsOf commandBytes counted known lookup commandRows freshTransform freshGeometry freshStream fresh
 fresh-sound = refl
 
-rooms-geometry : (v p : ℕ) → roomsAllowed v p ≡ true → soundGeometry
-(withRooms fresh v p .core .registers .geometry) ≡ true
+rooms-geometry : (v p : ℕ) → roomsAllowed v p ≡ true
+    → soundGeometry (withRooms fresh v p .core .registers .geometry) ≡ true
 unfolding withRooms fresh freshGeometry soundGeometry soundWaiting
 rooms-geometry v p h = simp (h, le-leb 0 v (omega arith), le-leb 0 p (omega arith))
 

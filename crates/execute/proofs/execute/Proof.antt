@@ -56,15 +56,11 @@ same-length-2 c = search needs
 returns-2 : tie.Need-returns-2
 unfolding execute runOperation
 returns-2 c =
-    let
-    core = c .before .before .before .before .before .before .before .before .before .before .before .before .args .core in
-    ap (λ (e : Buffered Registers). beside e (withRegisters core (e .part)))
+    let told = c .before .before .before .before .before .before .before .before in
+    let start = told .before .before .before .before in
+    ap (λ (e : Buffered Registers). beside e (withRegisters (start .args .core) (e .part)))
     (c .before .before .before .run-registers .ensures)
-    ∙ sym
-    (ap
-    (by-operation (c .before .before .before .before .before .before .before .before .before .before .before .before))
-    (sym (c .before .before .before .before .before .before .before .before .before .before .operation-of .ensures)
-    ∙ c .before .before .before .before .before .before .before .before .operation2 .given .1))
+    ∙ sym (ap (by-operation start) (sym (told .before .before .operation-of .ensures) ∙ told .operation2 .given .1))
 
 pub execute-spec : {M : Type 1} → statement M
 execute-spec =

@@ -59,15 +59,10 @@ same-length-2 c = search needs
 returns-2 : tie.Need-returns-2
 unfolding runRegisters
 returns-2 c =
-    let
-    r = c .before .before .before .before .before .before .before .before .before .before .before .before .before .args .r in
-    ap (λ (e : Buffered Geometry). beside e (withGeometry r (e .part)))
-    (c .before .before .before .run-geometry .ensures)
-    ∙ sym
-    (ap
-    (by-command
-    (c .before .before .before .before .before .before .before .before .before .before .before .before .before))
-    (c .before .before .before .before .before .before .before .before .before .before .command2 .given .1))
+    let told = c .before .before .before .before .before .before .before .before .before .before in
+    let start = told .before .before .before in
+    ap (λ (e : Buffered Geometry). beside e (withGeometry (start .args .r) (e .part))) (c .before .before .before .run-geometry .ensures)
+    ∙ sym (ap (by-command start) (told .command2 .given .1))
 
 returns-3 : tie.Need-returns-3
 unfolding runRegisters

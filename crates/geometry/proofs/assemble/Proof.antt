@@ -91,8 +91,8 @@ returns-4 : tie.Need-returns-4
 unfolding assembled
 returns-4 c =
     let odd = c .before .before .before .before .before .before in
-    c .before .before .before .store-triangle2 .ensures
-    ∙ sym (ap (by-list (odd .before .before .before .before .before .before .before .before .before)) (odd .before .before .list .given .1 ∙ ap TriangleStrip (odd .if1 .taken)))
+    let list = odd .before .before .list .given .1 ∙ ap TriangleStrip (odd .if1 .taken) in
+    c .before .before .before .store-triangle2 .ensures ∙ sym (ap (by-list (odd .before .before .before .before .before .before .before .before .before)) list)
 
 same-length-7 : tie.Need-same-length-7
 same-length-7 c = search needs
@@ -104,8 +104,8 @@ returns-5 : tie.Need-returns-5
 unfolding assembled
 returns-5 c =
     let odd = c .before .before .before .before .before .before in
-    c .before .before .before .store-triangle3 .ensures
-    ∙ sym (ap (by-list (odd .before .before .before .before .before .before .before .before .before)) (odd .before .before .list .given .1 ∙ ap TriangleStrip (odd .if1 .left)))
+    let list = odd .before .before .list .given .1 ∙ ap TriangleStrip (odd .if1 .left) in
+    c .before .before .before .store-triangle3 .ensures ∙ sym (ap (by-list (odd .before .before .before .before .before .before .before .before .before)) list)
 
 same-length-9 : tie.Need-same-length-9
 same-length-9 c = search needs
