@@ -93,7 +93,8 @@ module _ (ws : List (List ℤ)) where
   module _ (w : Waiting) where
     abbrev Ends : OpenList → List ℤ → List ℤ → List ℤ → ℕ → Buffered Geometry → List (List ℤ) → ℕ → ℕ → Type 0
     Ends list a b c n s vs k count =
-        keeping w (allTaken (keeping (waits list a b c n) s) vs) ≡ keeping w (allStored s (polygonsFrom list ws k count))
+        keeping w (allTaken (keeping (waits list a b c n) s) vs)
+        ≡ keeping w (allStored s (polygonsFrom list ws k count))
 
     -- polygon k is p, and then the others
     next : (list : OpenList) (s : Buffered Geometry) (p : List (List ℤ)) (k n count : ℕ) → polygonAt list ws k ≡ p

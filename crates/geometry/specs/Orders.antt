@@ -1,5 +1,5 @@
--- The polygons of a whole list as document 01 tells them: "Orders, from vertex 0 of the list". proofs/InOrder.antt shows
--- that vertices taken one by one store these. Assumes nothing.
+-- The polygons of a whole list as document 01 tells them: "Orders, from vertex 0 of the list". proofs/InOrder.antt has
+-- the law that vertices taken one by one store these. Assumes nothing.
 use mathlib.Core.Bool.{Bool, false, not, cond}
 use mathlib.Core.List.{List, [], _∷_, map}
 use Prim.Native.Nat.{ℕ, zero, suc, _+_, _*_, _-_, _/_}
@@ -16,8 +16,8 @@ abbrev pub isOdd : ℕ → Bool
 isOdd zero = false
 isOdd (suc k) = not (isOdd k)
 
--- the vertices of polygon k by their numbers: "triangles 3 by 3; quads 4 by 4; triangle strip k: k, k+1, k+2, for odd k:
--- k+1, k, k+2; quad strip k: 2k, 2k+1, 2k+3, 2k+2"
+-- the vertices of polygon k by their numbers: "triangles 3 by 3; quads 4 by 4; triangle strip k: k, k+1, k+2, for odd
+-- k: k+1, k, k+2; quad strip k: 2k, 2k+1, 2k+3, 2k+2"
 abbrev pub order : OpenList → ℕ → List ℕ
 order Closed k = []
 order Triangles k = 3 * k ∷ (3 * k + 1) ∷ (3 * k + 2) ∷ []

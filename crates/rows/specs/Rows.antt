@@ -3,7 +3,7 @@
 use mathlib.Core.Bool.{Bool, true, false, cond}
 use mathlib.Core.List.{List, [], _∷_, _++_, map}
 use mathlib.Core.Path.{_≡_, refl}
-use Prim.Native.Nat.{ℕ, zero, suc}
+use Prim.Native.Nat.{ℕ, zero, suc, _*_}
 use lib.IntN.{ℤ, pos, negsuc}
 use lib.ListN.{set, replicate}
 use Rattle.lowbits.specs.Bits.{floorBits, lowBits, asSigned}
@@ -11,10 +11,11 @@ use Rattle.commands.specs.declared.Count.the-variants.{Takes, Unknown}
 use Rattle.commands.specs.Commands.{commandRows, lookup, known, count, counted, commandBytes}
 use Rattle.matrix.specs.Matrix.{entry, rowBy, mul, unit, scaleMatrix, at, one}
 use Rattle.stream.specs.Pending.{commandsOf, soundPending}
+use Rattle.state.specs.declared.Geometry.{Geometry}
 use Rattle.state.specs.declared.Core.{Core}
 use Rattle.state.specs.declared.Stream.{Stream}
-use Rattle.state.specs.With.{withPair}
-use Rattle.state.specs.Fresh.{zeros, freshTransform, fresh}
+use Rattle.state.specs.With.{withPair, withRooms}
+use Rattle.state.specs.Fresh.{zeros, freshTransform, freshGeometry, fresh, start}
 use Rattle.state.specs.Sound.{pendingOf, soundStream}
 use Rattle.stacks.specs.declared.Matrices.{Matrices}
 use Rattle.stacks.specs.declared.StackCommand.the-variants.{Push, Pop, Store}
@@ -23,6 +24,15 @@ use Rattle.stacks.specs.Slot.{slotAt}
 use Rattle.stacks.specs.Stack.{level, target, stored, loaded, pushPair, popPair, storePair, runStack}
 use Rattle.transforms.specs.declared.MatrixCommand.the-variants.{Mode}
 use Rattle.transforms.specs.Command.{runMatrix}
+use Rattle.positions.specs.Position.{positionAfter}
+use Rattle.polygons.specs.Buffers.{Buffered, buffered, vertexWidth, polygonWidth, withVertex, withPolygon}
+use Rattle.polygons.specs.Records.{vertexRecord}
+use Rattle.polygons.specs.Store.{stored as storedPolygon}
+use Rattle.geometry.specs.List.{beginList, swapBuffers}
+use Rattle.geometry.specs.Vertex.{joined, assembled, remaining, taken, vertexAt}
+use Rattle.geometry.specs.Command.{runGeometry}
+use Rattle.execute.specs.Operation.{registerCommandOf, operationOf}
+use Rattle.execute.specs.Execute.{runRegisters, runOperation, execute}
 
 pub record WorkedRow : Type 1 where
   pub Kind : Type 0
@@ -68,6 +78,44 @@ abbrev pushes : ℕ → Matrices → Matrices
 pushes zero m = m
 pushes (suc n) m = pushes n (runStack Push 0 m)
 
+-- the core of an engine with these rooms, and buffers for them in which each number is -1 or 9
+abbrev startWith : ℕ → ℕ → Buffered Core
+startWith vertices polygons =
+    buffered (start vertices polygons .engine .core) (replicate (vertexWidth * vertices) (negsuc 0))
+    (replicate (polygonWidth * polygons) 9)
+
+-- commands one after another, each a byte and its parameters
+abbrev runs : List (ℕ × List ℕ) → Buffered Core → Buffered Core
+runs [] s = s
+runs (c ∷ cs) s = runs cs (execute (c .0) (c .1) s)
+
+-- 23h with X = x, Y = Z = 0
+abbrev vertex : ℕ → ℕ × List ℕ
+vertex x = (0x23, x ∷ 0 ∷ [])
+
+-- 40h with this kind, and four vertices
+abbrev fourVertices : ℕ → List (ℕ × List ℕ)
+fourVertices kind = (0x40, kind ∷ []) ∷ vertex 10 ∷ vertex 20 ∷ vertex 30 ∷ vertex 40 ∷ []
+
+-- two triangles; the attributes are given before and after 40h, the colour before each of the first three vertices
+abbrev twoTriangles : List (ℕ × List ℕ)
+twoTriangles =
+    (0x29, 77 ∷ []) ∷ (0x40, 0 ∷ []) ∷ (0x29, 88 ∷ []) ∷
+    (0x20, 1 ∷ []) ∷ vertex 10 ∷ (0x20, 2 ∷ []) ∷ vertex 20 ∷ (0x20, 0x8003 ∷ []) ∷ vertex 30 ∷
+    vertex 40 ∷ vertex 50 ∷ vertex 60 ∷ []
+
+abbrev geometryOf : Buffered Core → Geometry
+geometryOf s = s .part .registers .geometry
+
+-- used counts
+abbrev usedIn : Buffered Core → List ℕ
+usedIn s = geometryOf s .used .vertices ∷ geometryOf s .used .polygons ∷ []
+
+-- the X of the vertices that are stored, n of them from vertex i on
+abbrev storedX : ℕ → ℕ → Buffered Core → List ℤ
+storedX zero i s = []
+storedX (suc n) i s = at (s .vertices) (vertexWidth * i) ∷ storedX n (suc i) s
+
 -- ---- the table, in document 01's order
 
 abbrev pub commandTableRows : List WorkedRow
@@ -106,6 +154,35 @@ stackRows =
     (pos 5 ∷ pos 0 ∷ negsuc 0 ∷ negsuc 25 ∷ pos 37 ∷ pos 6 ∷ pos 5 ∷ [])
     ∷ []
 
+abbrev pub geometryRows : List WorkedRow
+geometryRows =
+    -- 7: 28h adding 1 to X 32767 gives -32768
+    row (geometryOf (runs (vertex 32767 ∷ (0x28, 1 ∷ []) ∷ []) (startWith 1 1)) .position .x) (negsuc 32767)
+    -- 8: 24h with X field 200h gives -32768
+    ∷ row (geometryOf (runs ((0x24, 0x200 ∷ []) ∷ []) (startWith 1 1)) .position .x) (negsuc 32767)
+    -- 9: rooms 3 and 1: the second triangle is dropped, flag set
+    ∷ row (usedIn (runs twoTriangles (startWith 3 1))) (3 ∷ 1 ∷ [])
+    ∷ row (geometryOf (runs twoTriangles (startWith 3 1)) .overflow) true
+    ∷ row (runs twoTriangles (startWith 3 1) .vertices)
+    (pos 10 ∷ pos 0 ∷ pos 0 ∷ pos 4096 ∷ pos 1 ∷
+    pos 20 ∷ pos 0 ∷ pos 0 ∷ pos 4096 ∷ pos 2 ∷
+    pos 30 ∷ pos 0 ∷ pos 0 ∷ pos 4096 ∷ pos 3 ∷ [])
+    ∷ row (runs twoTriangles (startWith 3 1) .polygons) (0 ∷ 3 ∷ 77 ∷ [])
+    -- with room for 6 vertices and 1 polygon, and for 5 and 2, it is dropped too, and the buffers past the first stay
+    ∷ row (usedIn (runs twoTriangles (startWith 6 1)) ++ usedIn (runs twoTriangles (startWith 5 2)))
+    (3 ∷ 1 ∷ 3 ∷ 1 ∷ [])
+    ∷ row (runs twoTriangles (startWith 5 2) .polygons) (0 ∷ 3 ∷ 77 ∷ 9 ∷ 9 ∷ 9 ∷ [])
+    -- of the orders: a quad, the second triangle of a strip, a quad of a strip
+    ∷ row (storedX 4 0 (runs (fourVertices 1) (startWith 4 1))) (pos 10 ∷ pos 20 ∷ pos 30 ∷ pos 40 ∷ [])
+    ∷ row (storedX 6 0 (runs (fourVertices 2) (startWith 6 2)))
+    (pos 10 ∷ pos 20 ∷ pos 30 ∷ pos 30 ∷ pos 20 ∷ pos 40 ∷ [])
+    ∷ row (storedX 4 0 (runs (fourVertices 3) (startWith 4 1))) (pos 10 ∷ pos 20 ∷ pos 40 ∷ pos 30 ∷ [])
+    -- of 50h: the counts are emptied, and the lent words stay
+    ∷ row (usedIn (runs (fourVertices 0 ++ ((0x50, 0 ∷ []) ∷ [])) (startWith 3 1))) (0 ∷ 0 ∷ [])
+    ∷ row (storedX 3 0 (runs (fourVertices 0 ++ ((0x50, 0 ∷ []) ∷ [])) (startWith 3 1)))
+    (pos 10 ∷ pos 20 ∷ pos 30 ∷ [])
+    ∷ []
+
 abbrev pub soundRows : List WorkedRow
 soundRows =
     -- of Sound: nothing pending; 10h queued with none of its one parameter, and with one
@@ -134,7 +211,7 @@ soundRows =
     ∷ []
 
 abbrev pub workedRows : List WorkedRow
-workedRows = commandTableRows ++ matrixRows ++ stackRows ++ soundRows
+workedRows = commandTableRows ++ matrixRows ++ stackRows ++ geometryRows ++ soundRows
 
 -- ---- its claim
 
@@ -150,6 +227,13 @@ stacks : AllHold stackRows
 unfolding lowBits asSigned unit freshTransform fresh runMatrix stored loaded pushPair popPair storePair runStack
 stacks = (refl, (refl, (refl, (refl, (refl, (refl, (refl, (refl, (refl, tt)))))))))
 
+geometries : AllHold geometryRows
+unfolding floorBits lowBits asSigned entry rowBy mul unit freshTransform freshGeometry fresh withRooms start
+    positionAfter withVertex withPolygon vertexRecord storedPolygon joined assembled remaining taken vertexAt
+    beginList swapBuffers runGeometry registerCommandOf operationOf runRegisters runOperation execute
+geometries =
+    (refl, (refl, (refl, (refl, (refl, (refl, (refl, (refl, (refl, (refl, (refl, (refl, (refl, tt)))))))))))))
+
 sounds : AllHold soundRows
 unfolding commandRows lookup known count counted commandBytes commandsOf soundPending pendingOf soundStream
 sounds = (refl, (refl, (refl, (refl, (refl, tt)))))
@@ -160,6 +244,8 @@ join (x ∷ xs) ys a b = (a .0, join xs ys (a .1) b)
 
 pub worked : AllHold workedRows
 worked =
-    join (commandTableRows ++ matrixRows ++ stackRows) soundRows
+    join (commandTableRows ++ matrixRows ++ stackRows ++ geometryRows) soundRows
+    (join (commandTableRows ++ matrixRows ++ stackRows) geometryRows
     (join (commandTableRows ++ matrixRows) stackRows (join commandTableRows matrixRows command-table matrices) stacks)
+    geometries)
     sounds
