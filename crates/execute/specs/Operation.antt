@@ -1,4 +1,4 @@
--- What each command byte asks for: document 01's 37 commands (proofs/Known.antt). Assumes nothing.
+-- What each command byte asks for: document 01's 37 commands (proofs/Bytes.antt). Assumes nothing.
 use mathlib.Core.Bool.{cond}
 use mathlib.Core.List.{List, [], _∷_}
 use Prim.Native.Nat.{ℕ}
