@@ -12,6 +12,7 @@ use Rattle.state.specs.With.{withRegisters, withCore}
 use Rattle.state.specs.Sound.{soundTransform, soundGeometry, soundCore, sound}
 use Rattle.state.proofs.SoundLaws.{core-parts, parts-core, sound-parts, core-kept}
 use Rattle.state.proofs.GeometryLaws.{geometry-ranges, geometry-in-ranges}
+use Rattle.state.specs.Clip.{clipOf}
 use Rattle.stacks.specs.Stack.{runStack}
 use Rattle.stacks.proofs.Keeps.{run-stack}
 use Rattle.transforms.proofs.Keeps.{run-matrix}
@@ -22,7 +23,7 @@ use Rattle.execute.specs.declared.RegisterCommand.the-variants.{Matrix, 
 use Rattle.execute.specs.declared.Operation.{Operation}
 use Rattle.execute.specs.declared.Operation.the-variants.{Stack, Registers}
 use Rattle.execute.specs.Operation.{operationOf}
-use Rattle.execute.specs.Execute.{clipOf, runRegisters, matricesOf, withMatrices, runOperation, execute}
+use Rattle.execute.specs.Execute.{runRegisters, matricesOf, withMatrices, runOperation, execute}
 
 -- ---- commands that use no stack
 

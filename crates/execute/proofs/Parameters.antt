@@ -18,6 +18,7 @@ use Rattle.state.specs.declared.Transform.{Transform}
 use Rattle.state.specs.declared.Geometry.{Geometry as GeometryPart}
 use Rattle.state.specs.declared.Core.{Core}
 use Rattle.state.specs.With.{withTransform, withGeometry, withRegisters}
+use Rattle.state.specs.Clip.{clipOf}
 use Rattle.stacks.specs.declared.Matrices.{Matrices}
 use Rattle.stacks.specs.Stack.{runStack}
 use Rattle.transforms.specs.Act.{onBoth, onCurrent}
@@ -39,7 +40,7 @@ use Rattle.execute.specs.declared.RegisterCommand.the-variants.{Matrix, 
 use Rattle.execute.specs.declared.Operation.{Operation}
 use Rattle.execute.specs.declared.Operation.the-variants.{Stack, Registers}
 use Rattle.execute.specs.Operation.{registerCommandOf, operationOf}
-use Rattle.execute.specs.Execute.{clipOf, runRegisters, matricesOf, withMatrices, runOperation, execute}
+use Rattle.execute.specs.Execute.{runRegisters, matricesOf, withMatrices, runOperation, execute}
 use Rattle.execute.proofs.Bytes.{allBelow, each-below}
 
 -- ---- how many parameters are read

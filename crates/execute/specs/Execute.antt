@@ -1,13 +1,11 @@
 -- One command on the core and the caller's two buffers. Assumes nothing.
 use mathlib.Core.List.{List}
 use Prim.Native.Nat.{ℕ}
-use lib.IntN.{ℤ}
 use lib.ListN.{getD}
-use Rattle.matrix.specs.Matrix.{clipMatrix}
-use Rattle.state.specs.declared.Transform.{Transform}
 use Rattle.state.specs.declared.Registers.{Registers as RegisterPart}
 use Rattle.state.specs.declared.Core.{Core}
 use Rattle.state.specs.With.{withTransform, withGeometry, withRegisters}
+use Rattle.state.specs.Clip.{clipOf}
 use Rattle.stacks.specs.declared.Matrices.{Matrices}
 use Rattle.stacks.specs.Stack.{runStack}
 use Rattle.transforms.specs.Command.{runMatrix}
@@ -20,10 +18,6 @@ use Rattle.execute.specs.declared.Operation.the-variants.{Stack, Registe
 use Rattle.execute.specs.Operation.{operationOf}
 
 -- ---- commands that use no stack, with their parameters p
-
--- document 01, Matrices: "Clip matrix = position × projection"
-abbrev pub clipOf : Transform → List ℤ
-clipOf t = clipMatrix (t .pair .position) (t .projection .matrix)
 
 unfoldable pub runRegisters : RegisterCommand → List ℕ → Buffered RegisterPart → Buffered RegisterPart
 runRegisters (Matrix k) p s = beside s (withTransform (s .part) (runMatrix k p (s .part .transform)))

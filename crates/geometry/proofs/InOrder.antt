@@ -16,7 +16,7 @@ use Rattle.state.specs.declared.Geometry.{Geometry}
 use Rattle.state.specs.With.{withAttributes}
 use Rattle.state.proofs.SoundLaws.{cond-case}
 use Rattle.polygons.specs.Buffers.{Buffered, beside}
-use Rattle.polygons.specs.Store.{hasRoom, added, dropped, stored}
+use Rattle.polygons.specs.Store.{hasRoom, added, dropped, storePolygon}
 use Rattle.geometry.specs.List.{kindOf, emptied, beginList}
 use Rattle.geometry.specs.Vertex.{joined, assembled, remaining, keeping, taken}
 use Rattle.geometry.specs.Orders.{isOdd, polygonAt, polygonsFrom, polygonsOf, allStored, allTaken}
@@ -24,8 +24,8 @@ use Rattle.geometry.specs.Orders.{isOdd, polygonAt, polygonsFrom, polygo
 -- ---- a polygon is stored whatever waits
 
 stored-keeping : (p : List (List ℤ)) (w : Waiting) (s : Buffered Geometry)
-    → stored p (keeping w s) ≡ keeping w (stored p s)
-unfolding stored
+    → storePolygon p (keeping w s) ≡ keeping w (storePolygon p s)
+unfolding storePolygon
 stored-keeping p w s = by (hasRoom (s .part) (length p))
   where
     by : (b : Bool)
@@ -37,7 +37,7 @@ all-stored-keeping : (ps : List (List (List ℤ))) (w : Waiting) (s : Buffered G
     → allStored (keeping w s) ps ≡ keeping w (allStored s ps)
 all-stored-keeping [] w s = refl
 all-stored-keeping (p ∷ ps) w s =
-    ap (λ (e : Buffered Geometry). allStored e ps) (stored-keeping p w s) ∙ all-stored-keeping ps w (stored p s)
+    ap (λ (e : Buffered Geometry). allStored e ps) (stored-keeping p w s) ∙ all-stored-keeping ps w (storePolygon p s)
 
 -- ---- the vertex that completes a polygon
 
@@ -50,16 +50,16 @@ turned odd a b v = cond odd (b ∷ a ∷ v ∷ []) (a ∷ b ∷ v ∷ [])
 
 module _ (s : Buffered Geometry) (a b c v : List ℤ) where
   triangle : taken (keeping (waits Triangles a b c 2) s) v
-      ≡ keeping (waits Triangles a b c 0) (stored (a ∷ b ∷ v ∷ []) s)
+      ≡ keeping (waits Triangles a b c 0) (storePolygon (a ∷ b ∷ v ∷ []) s)
   unfolding taken remaining assembled
   triangle = ap (keeping (waits Triangles a b c 0)) (stored-keeping (a ∷ b ∷ v ∷ []) (waits Triangles a b c 2) s)
 
-  quad : taken (keeping (waits Quads a b c 3) s) v ≡ keeping (waits Quads a b c 0) (stored (a ∷ b ∷ c ∷ v ∷ []) s)
+  quad : taken (keeping (waits Quads a b c 3) s) v ≡ keeping (waits Quads a b c 0) (storePolygon (a ∷ b ∷ c ∷ v ∷ []) s)
   unfolding taken remaining assembled
   quad = ap (keeping (waits Quads a b c 0)) (stored-keeping (a ∷ b ∷ c ∷ v ∷ []) (waits Quads a b c 3) s)
 
   strip-triangle : (odd : Bool) → taken (keeping (waits (TriangleStrip odd) a b c 2) s) v
-      ≡ keeping (waits (TriangleStrip (not odd)) b v c 2) (stored (turned odd a b v) s)
+      ≡ keeping (waits (TriangleStrip (not odd)) b v c 2) (storePolygon (turned odd a b v) s)
   unfolding taken remaining assembled
   strip-triangle true =
       ap (keeping (waits (TriangleStrip false) b v c 2))
@@ -69,7 +69,7 @@ module _ (s : Buffered Geometry) (a b c v : List ℤ) where
       (stored-keeping (a ∷ b ∷ v ∷ []) (waits (TriangleStrip false) a b c 2) s)
 
   strip-quad : taken (keeping (waits QuadStrip a b c 3) s) v
-      ≡ keeping (waits QuadStrip c v c 2) (stored (a ∷ b ∷ v ∷ c ∷ []) s)
+      ≡ keeping (waits QuadStrip c v c 2) (storePolygon (a ∷ b ∷ v ∷ c ∷ []) s)
   unfolding taken remaining assembled
   strip-quad =
       ap (keeping (waits QuadStrip c v c 2)) (stored-keeping (a ∷ b ∷ v ∷ c ∷ []) (waits QuadStrip a b c 3) s)
@@ -99,10 +99,10 @@ module _ (ws : List (List ℤ)) where
     -- polygon k is p, and then the others
     next : (list : OpenList) (s : Buffered Geometry) (p : List (List ℤ)) (k n count : ℕ) → polygonAt list ws k ≡ p
         → suc n ≡ count
-        → keeping w (allStored (stored p s) (polygonsFrom list ws (suc k) n))
+        → keeping w (allStored (storePolygon p s) (polygonsFrom list ws (suc k) n))
         ≡ keeping w (allStored s (polygonsFrom list ws k count))
     next list s p k n count e f =
-        ap (λ (x : List (List ℤ)). keeping w (allStored (stored x s) (polygonsFrom list ws (suc k) n))) (sym e)
+        ap (λ (x : List (List ℤ)). keeping w (allStored (storePolygon x s) (polygonsFrom list ws (suc k) n))) (sym e)
         ∙ ap (λ (x : ℕ). keeping w (allStored s (polygonsFrom list ws k x))) f
 
     triangles : (k : ℕ) (s : Buffered Geometry) (a b c : List ℤ) (vs : List (List ℤ)) → drop (3 * k) ws ≡ vs
@@ -115,7 +115,7 @@ module _ (ws : List (List ℤ)) where
         let m = 3 * k in
         let p = x ∷ y ∷ z ∷ [] in
         ap (λ (r : Buffered Geometry). keeping w (allTaken r vs)) (triangle s x y c z)
-        ∙ triangles (suc k) (stored p s) x y c vs (later m 3 (3 * suc k) _ e (omega arith))
+        ∙ triangles (suc k) (storePolygon p s) x y c vs (later m 3 (3 * suc k) _ e (omega arith))
         ∙ next Triangles s p k (length vs / 3) (length (x ∷ y ∷ z ∷ vs) / 3)
         (λ t. at-first m _ e t ∷ at-place m 1 _ e t ∷ at-place m 2 _ e t ∷ []) (omega arith)
 
@@ -130,7 +130,7 @@ module _ (ws : List (List ℤ)) where
         let m = 4 * k in
         let p = x ∷ y ∷ z ∷ u ∷ [] in
         ap (λ (r : Buffered Geometry). keeping w (allTaken r vs)) (quad s x y z u)
-        ∙ quads (suc k) (stored p s) x y z vs (later m 4 (4 * suc k) _ e (omega arith))
+        ∙ quads (suc k) (storePolygon p s) x y z vs (later m 4 (4 * suc k) _ e (omega arith))
         ∙ next Quads s p k (length vs / 4) (length (x ∷ y ∷ z ∷ u ∷ vs) / 4)
         (λ t. at-first m _ e t ∷ at-place m 1 _ e t ∷ at-place m 2 _ e t ∷ at-place m 3 _ e t ∷ []) (omega arith)
 
@@ -141,7 +141,7 @@ module _ (ws : List (List ℤ)) where
     strip k s a b c [] e = refl
     strip k s a b c (v ∷ vs) e =
         ap (λ (r : Buffered Geometry). keeping w (allTaken r vs)) (strip-triangle s a b c v (isOdd k))
-        ∙ strip (suc k) (stored (turned (isOdd k) a b v) s) b v c vs (later k 1 (suc k) _ e (omega arith))
+        ∙ strip (suc k) (storePolygon (turned (isOdd k) a b v) s) b v c vs (later k 1 (suc k) _ e (omega arith))
         ∙ next (TriangleStrip false) s (turned (isOdd k) a b v) k (length vs) (suc (length vs)) (by (isOdd k)) refl
       where
         by : (odd : Bool)
@@ -159,7 +159,7 @@ module _ (ws : List (List ℤ)) where
         let m = 2 * k in
         let p = a ∷ b ∷ y ∷ x ∷ [] in
         ap (λ (r : Buffered Geometry). keeping w (allTaken r vs)) (strip-quad s a b x y)
-        ∙ quad-strip (suc k) (stored p s) x y x vs (later m 2 (2 * suc k) _ e (omega arith))
+        ∙ quad-strip (suc k) (storePolygon p s) x y x vs (later m 2 (2 * suc k) _ e (omega arith))
         ∙ next QuadStrip s p k (length vs / 2) (length (x ∷ y ∷ vs) / 2)
         (λ t. at-first m _ e t ∷ at-place m 1 _ e t ∷ at-place m 3 _ e t ∷ at-place m 2 _ e t ∷ []) (omega arith)
 

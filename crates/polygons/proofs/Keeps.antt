@@ -13,9 +13,10 @@ use Rattle.state.specs.declared.Geometry.{Geometry}
 use Rattle.state.specs.With.{withOverflow}
 use Rattle.state.proofs.SoundLaws.{cond-case}
 use Rattle.state.proofs.GeometryLaws.{GeometryRanges, room-limits}
-use Rattle.polygons.specs.Buffers.{Buffered, beside, vertexWidth, polygonWidth, longEnough, withVertex}
-use Rattle.polygons.specs.Buffers.{withVertices, withPolygon}
-use Rattle.polygons.specs.Store.{hasRoom, added, dropped, stored}
+use Rattle.state.specs.Fresh.{vertexWidth}
+use Rattle.polygons.specs.Buffers.{Buffered, beside, polygonWidth, longEnough, withVertex, withVertices}
+use Rattle.polygons.specs.Buffers.{withPolygon}
+use Rattle.polygons.specs.Store.{hasRoom, added, dropped, storePolygon}
 use Rattle.polygons.specs.Bounds.{Bounds}
 use Rattle.polygons.proofs.Rooms.{room}
 
@@ -41,8 +42,8 @@ length-polygon : (buffer : List ℕ) (n : ℕ) (p : List ℕ) → length (withPo
 unfolding withPolygon
 length-polygon buffer n p = length-sets buffer (polygonWidth * n) p
 
-pub stored-kept : (vs : List (List ℤ)) (s : Buffered Geometry) → GeometryRanges (s .part) → Kept s (stored vs s)
-unfolding stored
+pub stored-kept : (vs : List (List ℤ)) (s : Buffered Geometry) → GeometryRanges (s .part) → Kept s (storePolygon vs s)
+unfolding storePolygon
 stored-kept vs s r =
     let g = s .part in
     cond-case (Kept s) (hasRoom g (length vs)) (added vs s) (dropped s)

@@ -6,24 +6,24 @@ ghost use mathlib.Core.List.{_∷_, []};
 ghost use Prim.Native.Nat.{_+_, _*_, _<_, _≤_};
 ghost use lib.ListN.{length};
 ghost use Rattle.state.specs.With.{withOverflow};
-ghost use Rattle.polygons.specs.Buffers.{buffered, vertexWidth, polygonWidth, withVertex, withVertices};
+ghost use Rattle.state.specs.Fresh.{vertexWidth};
+ghost use Rattle.polygons.specs.Buffers.{buffered, polygonWidth, withVertex, withVertices};
 ghost use Rattle.polygons.specs.Buffers.{withPolygon};
 ghost use Rattle.polygons.specs.Records.{vertexRecord, polygonRecord};
-ghost use Rattle.polygons.specs.Store.{hasRoom, counted, stored};
+ghost use Rattle.polygons.specs.Store.{hasRoom, oneMore, storePolygon};
 ghost use Rattle.polygons.specs.Bounds.{Bounds};
 use matrix::clip_vertex;
 use state::Coordinates;
 use state::Counts;
 use state::Geometry;
+use state::VERTEX_WIDTH;
 use state::VertexRecord;
 
-// How many numbers a vertex and a polygon take in the caller's buffers.
-const VERTEX_WIDTH: usize = 5;
-
+// How many numbers a polygon takes in the caller's buffer.
 const POLYGON_WIDTH: usize = 3;
 
 // A polygon as the caller's buffer holds it: first vertex, 3 or 4, attributes.
-type PolygonRecord = [u32; 3];
+type PolygonRecord = [u32; POLYGON_WIDTH];
 
 // The clip vertex of a position, joined with the colour. For the crates above this one.
 pub fn vertex_record(p: Coordinates, colour: u32, clip: [i32; 16]) -> VertexRecord
@@ -85,7 +85,7 @@ fn add_polygon(g: Geometry, count: usize, polygons: &mut [u32]) -> Geometry
     requires { ⌜ (g .used .vertices ≤ 6144) × (count ≤ 4) ⌝ }
     requires { ⌜ (g .used .polygons < 2048)
         × (polygonWidth * (g .used .polygons + 1) ≤ length (now polygons)) ⌝ }
-    ensures { λ r. ⌜ r ≡ counted g count ⌝ }
+    ensures { λ r. ⌜ r ≡ oneMore g count ⌝ }
     ensures { λ _. ⌜ now (polygons .exit)
         ≡ withPolygon (now (polygons .entry)) (g .used .polygons)
         (polygonRecord (g .used .vertices) count (g .attributes)) ⌝ }
@@ -126,7 +126,7 @@ pub fn store_triangle(
 ) -> Geometry
     requires { ⌜ Bounds (buffered g (now vertices) (now polygons)) ⌝ }
     ensures { λ r. ⌜ buffered r (now (vertices .exit)) (now (polygons .exit))
-        ≡ stored (a ∷ b ∷ c ∷ []) (buffered g (now (vertices .entry)) (now (polygons .entry))) ⌝ }
+        ≡ storePolygon (a ∷ b ∷ c ∷ []) (buffered g (now (vertices .entry)) (now (polygons .entry))) ⌝ }
 {
     if has_room(g, 3) {
         put_three(&mut *vertices, g.used.vertices, a, b, c);
@@ -148,7 +148,7 @@ pub fn store_quad(
 ) -> Geometry
     requires { ⌜ Bounds (buffered g (now vertices) (now polygons)) ⌝ }
     ensures { λ r. ⌜ buffered r (now (vertices .exit)) (now (polygons .exit))
-        ≡ stored (a ∷ b ∷ c ∷ d ∷ []) (buffered g (now (vertices .entry)) (now (polygons .entry))) ⌝ }
+        ≡ storePolygon (a ∷ b ∷ c ∷ d ∷ []) (buffered g (now (vertices .entry)) (now (polygons .entry))) ⌝ }
 {
     if has_room(g, 4) {
         let first = g.used.vertices;

@@ -5,7 +5,7 @@ use mathlib.Core.Bool.{false, cond}
 use mathlib.Core.List.{List, [], _∷_}
 use Prim.Native.Nat.{ℕ, _+_, _*_, _%_}
 use lib.IntN.{ℤ}
-use Rattle.matrix.specs.Matrix.{at, clipMatrix}
+use Rattle.matrix.specs.Matrix.{at}
 use Rattle.state.specs.declared.Single.{Single}
 use Rattle.state.specs.declared.Transform.{Transform}
 use Rattle.state.specs.declared.Registers.{Registers}
@@ -14,6 +14,7 @@ use Rattle.state.specs.declared.Answer.{Answer}
 use Rattle.state.specs.With.{withProjection, withError, withOverflow, withTransform, withGeometry, withRegisters}
 use Rattle.state.specs.With.{withCore, answered}
 use Rattle.state.specs.Fresh.{zeros}
+use Rattle.state.specs.Clip.{clipOf}
 use Rattle.state.specs.Sound.{sound}
 use Rattle.registers.specs.declared.StatusAnswer.{StatusAnswer}
 use Rattle.registers.specs.declared.MatrixAnswer.{MatrixAnswer}
@@ -37,9 +38,7 @@ readStatus e =
 -- document 01, Matrices: "Clip matrix and the 3x3 corner of the vector matrix can be read between calls."
 unfoldable pub readClipMatrix : Engine → MatrixAnswer
 readClipMatrix e =
-    let t : Transform = transformOf e in
-    let clip : List ℤ = clipMatrix (t .pair .position) (t .projection .matrix) in
-    cond (sound e) (record { number = 0; place = 0; matrix = clip })
+    cond (sound e) (record { number = 0; place = 0; matrix = clipOf (transformOf e) })
     (record { number = 1; place = 0; matrix = zeros 16 })
 
 -- the first three numbers of each of the first three rows

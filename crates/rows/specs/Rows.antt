@@ -15,7 +15,7 @@ use Rattle.state.specs.declared.Geometry.{Geometry}
 use Rattle.state.specs.declared.Core.{Core}
 use Rattle.state.specs.declared.Stream.{Stream}
 use Rattle.state.specs.With.{withPair, withRooms}
-use Rattle.state.specs.Fresh.{zeros, freshTransform, freshGeometry, fresh, start}
+use Rattle.state.specs.Fresh.{zeros, freshTransform, vertexWidth, freshGeometry, fresh, start}
 use Rattle.state.specs.Sound.{pendingOf, soundStream}
 use Rattle.stacks.specs.declared.Matrices.{Matrices}
 use Rattle.stacks.specs.declared.StackCommand.the-variants.{Push, Pop, Store}
@@ -25,9 +25,9 @@ use Rattle.stacks.specs.Stack.{level, target, stored, loaded, pushPair, popPair
 use Rattle.transforms.specs.declared.MatrixCommand.the-variants.{Mode}
 use Rattle.transforms.specs.Command.{runMatrix}
 use Rattle.positions.specs.Position.{positionAfter}
-use Rattle.polygons.specs.Buffers.{Buffered, buffered, vertexWidth, polygonWidth, withVertex, withPolygon}
+use Rattle.polygons.specs.Buffers.{Buffered, buffered, polygonWidth, withVertex, withPolygon}
 use Rattle.polygons.specs.Records.{vertexRecord}
-use Rattle.polygons.specs.Store.{stored as storedPolygon}
+use Rattle.polygons.specs.Store.{storePolygon}
 use Rattle.geometry.specs.List.{beginList, swapBuffers}
 use Rattle.geometry.specs.Vertex.{joined, assembled, remaining, taken, vertexAt}
 use Rattle.geometry.specs.Command.{runGeometry}
@@ -229,7 +229,7 @@ stacks = (refl, (refl, (refl, (refl, (refl, (refl, (refl, (refl, (refl, tt))))))
 
 geometries : AllHold geometryRows
 unfolding floorBits lowBits asSigned entry rowBy mul unit freshTransform freshGeometry fresh withRooms start
-    positionAfter withVertex withPolygon vertexRecord storedPolygon joined assembled remaining taken vertexAt
+    positionAfter withVertex withPolygon vertexRecord storePolygon joined assembled remaining taken vertexAt
     beginList swapBuffers runGeometry registerCommandOf operationOf runRegisters runOperation execute
 geometries =
     (refl, (refl, (refl, (refl, (refl, (refl, (refl, (refl, (refl, (refl, (refl, (refl, (refl, tt)))))))))))))

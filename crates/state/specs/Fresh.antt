@@ -37,6 +37,13 @@ freshTransform =
 abbrev pub freshStacks : Stacks
 freshStacks = record { positions = zeros 496; vectors = zeros 496 }
 
+-- how many numbers a vertex takes: document 01, Vertices and polygons: "five numbers each (X, Y, Z, W, colour)"
+abbrev pub vertexWidth : ℕ
+vertexWidth = 5
+
+abbrev noVertex : List ℤ
+noVertex = zeros vertexWidth
+
 unfoldable pub freshGeometry : Geometry
 freshGeometry =
     record {
@@ -44,7 +51,7 @@ freshGeometry =
       given = 0;
       attributes = 0;
       position = record { x = pos 0; y = pos 0; z = pos 0 };
-      waiting = record { list = Closed; first = zeros 5; second = zeros 5; third = zeros 5; count = 0 };
+      waiting = record { list = Closed; first = noVertex; second = noVertex; third = noVertex; count = 0 };
       used = record { vertices = 0; polygons = 0 };
       rooms = record { vertices = 1; polygons = 1 };
       overflow = false;

@@ -53,8 +53,11 @@ pub struct Coordinates {
     pub z: i16,
 }
 
+// How many numbers a vertex takes in the caller's buffer.
+pub const VERTEX_WIDTH: usize = 5;
+
 // A vertex as the caller's buffer holds it: X, Y, Z, W and colour.
-pub type VertexRecord = [i32; 5];
+pub type VertexRecord = [i32; VERTEX_WIDTH];
 
 // The list that 40h opened. A triangle strip keeps whether its next k is odd; for every other kind, and when closed,
 // this reads even.
@@ -161,9 +164,9 @@ fn fresh_geometry() -> Geometry
     let position = Coordinates { x: 0, y: 0, z: 0 };
     let waiting = Waiting {
         list: OpenList::Closed,
-        first: [0; 5],
-        second: [0; 5],
-        third: [0; 5],
+        first: [0; VERTEX_WIDTH],
+        second: [0; VERTEX_WIDTH],
+        third: [0; VERTEX_WIDTH],
         count: 0,
     };
     let used = Counts {
