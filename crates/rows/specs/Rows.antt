@@ -11,10 +11,11 @@ use Rattle.commands.specs.declared.Count.the-variants.{Takes, Unknown}
 use Rattle.commands.specs.Commands.{commandRows, lookup, known, count, counted, commandBytes}
 use Rattle.matrix.specs.Matrix.{entry, rowBy, mul, unit, scaleMatrix, at, one}
 use Rattle.stream.specs.Pending.{commandsOf, soundPending}
+use Rattle.state.specs.declared.OpenList.the-variants.{TriangleStrip}
 use Rattle.state.specs.declared.Geometry.{Geometry}
 use Rattle.state.specs.declared.Core.{Core}
 use Rattle.state.specs.declared.Stream.{Stream}
-use Rattle.state.specs.With.{withPair, withRooms}
+use Rattle.state.specs.With.{withPair, withPosition, withRooms}
 use Rattle.state.specs.Fresh.{zeros, freshTransform, vertexWidth, freshGeometry, fresh, start}
 use Rattle.state.specs.Sound.{pendingOf, soundStream}
 use Rattle.stacks.specs.declared.Matrices.{Matrices}
@@ -24,14 +25,14 @@ use Rattle.stacks.specs.Slot.{slotAt}
 use Rattle.stacks.specs.Stack.{level, target, stored, loaded, pushPair, popPair, storePair, runStack}
 use Rattle.transforms.specs.declared.MatrixCommand.the-variants.{Mode}
 use Rattle.transforms.specs.Command.{runMatrix}
-use Rattle.positions.specs.Position.{positionAfter}
+use Rattle.positions.specs.Position.{coordinates, positionAfter}
 use Rattle.polygons.specs.Buffers.{Buffered, buffered, polygonWidth, withVertex, withPolygon}
 use Rattle.polygons.specs.Records.{vertexRecord}
 use Rattle.polygons.specs.Store.{storePolygon}
 use Rattle.geometry.specs.List.{beginList, swapBuffers}
 use Rattle.geometry.specs.Vertex.{joined, assembled, remaining, taken, vertexAt}
 use Rattle.geometry.specs.Command.{runGeometry}
-use Rattle.execute.specs.Operation.{registerCommandOf, operationOf}
+use Rattle.execute.specs.Operation.{carried, registerCommandOf, operationOf}
 use Rattle.execute.specs.Execute.{runRegisters, runOperation, execute}
 
 pub record WorkedRow : Type 1 where
@@ -177,6 +178,13 @@ geometryRows =
     ∷ row (storedX 6 0 (runs (fourVertices 2) (startWith 6 2)))
     (pos 10 ∷ pos 20 ∷ pos 30 ∷ pos 30 ∷ pos 20 ∷ pos 40 ∷ [])
     ∷ row (storedX 4 0 (runs (fourVertices 3) (startWith 4 1))) (pos 10 ∷ pos 20 ∷ pos 40 ∷ pos 30 ∷ [])
+    -- of "a dropped one still counts for k": with room for one triangle of a strip, the next k after two is even
+    ∷ row (geometryOf (runs (fourVertices 2) (startWith 3 1)) .waiting .list) (TriangleStrip false)
+    -- of a closed list: a vertex sets the position, and nothing else
+    ∷ row (geometryOf (runs (vertex 10 ∷ []) (startWith 3 1)))
+    (withPosition (geometryOf (startWith 3 1)) (coordinates (pos 10) (pos 0) (pos 0)))
+    -- of 41h and the commands that are only carried: nothing
+    ∷ row (runs (map (λ (b : ℕ). (b, 7 ∷ [])) (0x41 ∷ carried)) (startWith 1 1)) (startWith 1 1)
     -- of 50h: the counts are emptied, and the lent words stay
     ∷ row (usedIn (runs (fourVertices 0 ++ ((0x50, 0 ∷ []) ∷ [])) (startWith 3 1))) (0 ∷ 0 ∷ [])
     ∷ row (storedX 3 0 (runs (fourVertices 0 ++ ((0x50, 0 ∷ []) ∷ [])) (startWith 3 1)))
@@ -231,8 +239,31 @@ geometries : AllHold geometryRows
 unfolding floorBits lowBits asSigned entry rowBy mul unit freshTransform freshGeometry fresh withRooms start
     positionAfter withVertex withPolygon vertexRecord storePolygon joined assembled remaining taken vertexAt
     beginList swapBuffers runGeometry registerCommandOf operationOf runRegisters runOperation execute
-geometries =
-    (refl, (refl, (refl, (refl, (refl, (refl, (refl, (refl, (refl, (refl, (refl, (refl, (refl, tt)))))))))))))
+geometries = (
+  refl,
+  (
+    refl,
+    (
+      refl,
+      (
+        refl,
+        (
+          refl,
+          (
+            refl,
+            (
+              refl,
+              (
+                refl,
+                (refl, (refl, (refl, (refl, (refl, (refl, (refl, (refl, tt)))))))),
+              ),
+            ),
+          ),
+        ),
+      ),
+    ),
+  ),
+)
 
 sounds : AllHold soundRows
 unfolding commandRows lookup known count counted commandBytes commandsOf soundPending pendingOf soundStream
