@@ -261,15 +261,9 @@ pub fn run_geometry(
 {
     match command {
         GeometryCommand::Position(how) => {
-            let p = g.position;
-            vertex_at(
-                g,
-                position_after(how, a, b, p),
-                position,
-                projection,
-                &mut *vertices,
-                &mut *polygons,
-            )
+            let before = g.position;
+            let p = position_after(how, a, b, before);
+            vertex_at(g, p, position, projection, &mut *vertices, &mut *polygons)
         }
         GeometryCommand::Colour => set_colour(g, a),
         GeometryCommand::Attributes => give_attributes(g, a),
