@@ -5,7 +5,7 @@ use mathlib.Core.Path.{_≡_, refl}
 use Prim.Native.Nat.{ℕ}
 use lib.IntN.{ℤ}
 use lib.ListN.{length, getD}
-use Rattle.state.specs.declared.Registers.{Registers as RegisterPart}
+use Rattle.state.specs.declared.Registers.{Registers}
 use Rattle.state.specs.declared.Core.{Core}
 use Rattle.state.specs.declared.Engine.{Engine}
 use Rattle.state.specs.With.{withRegisters, withCore}
@@ -21,21 +21,21 @@ use Rattle.geometry.proofs.Keeps.{run-geometry}
 use Rattle.execute.specs.declared.RegisterCommand.{RegisterCommand}
 use Rattle.execute.specs.declared.RegisterCommand.the-variants.{Matrix, Geometry, Carried, NoCommand}
 use Rattle.execute.specs.declared.Operation.{Operation}
-use Rattle.execute.specs.declared.Operation.the-variants.{Stack, Registers}
+use Rattle.execute.specs.declared.Operation.the-variants.{Stack, Register}
 use Rattle.execute.specs.Operation.{operationOf}
 use Rattle.execute.specs.Execute.{runRegisters, matricesOf, withMatrices, runOperation, execute}
 
 -- ---- commands that use no stack
 
 -- e is what such a command leaves of s
-record RegistersKept (s e : Buffered RegisterPart) : Type 0 where
+record RegistersKept (s e : Buffered Registers) : Type 0 where
   transform : soundTransform (e .part .transform) ≡ true
   geometry : soundGeometry (e .part .geometry) ≡ true
   rooms : e .part .geometry .rooms ≡ s .part .geometry .rooms
   vertices : length (e .vertices) ≡ length (s .vertices)
   polygons : length (e .polygons) ≡ length (s .polygons)
 
-module _ (s : Buffered RegisterPart) (t : soundTransform (s .part .transform) ≡ true)
+module _ (s : Buffered Registers) (t : soundTransform (s .part .transform) ≡ true)
     (g : soundGeometry (s .part .geometry) ≡ true) where
   unchanged : RegistersKept s s
   unchanged = record { transform = t; geometry = g; rooms = refl; vertices = refl; polygons = refl }
@@ -86,7 +86,7 @@ operation-kept (Stack k) p s h =
       vertices = refl;
       polygons = refl;
     }
-operation-kept (Registers k) p s h =
+operation-kept (Register k) p s h =
     let parts = core-parts (s .part) h in
     let kept = registers-kept (beside s (s .part .registers)) (parts .0) (parts .1) k p in
     record {

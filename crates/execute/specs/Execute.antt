@@ -2,7 +2,7 @@
 use mathlib.Core.List.{List}
 use Prim.Native.Nat.{ℕ}
 use lib.ListN.{getD}
-use Rattle.state.specs.declared.Registers.{Registers as RegisterPart}
+use Rattle.state.specs.declared.Registers.{Registers}
 use Rattle.state.specs.declared.Core.{Core}
 use Rattle.state.specs.With.{withTransform, withGeometry, withRegisters}
 use Rattle.state.specs.Clip.{clipOf}
@@ -14,15 +14,15 @@ use Rattle.geometry.specs.Command.{runGeometry}
 use Rattle.execute.specs.declared.RegisterCommand.{RegisterCommand}
 use Rattle.execute.specs.declared.RegisterCommand.the-variants.{Matrix, Geometry, Carried, NoCommand}
 use Rattle.execute.specs.declared.Operation.{Operation}
-use Rattle.execute.specs.declared.Operation.the-variants.{Stack, Registers}
+use Rattle.execute.specs.declared.Operation.the-variants.{Stack, Register}
 use Rattle.execute.specs.Operation.{operationOf}
 
 -- ---- commands that use no stack, with their parameters p
 
-unfoldable pub runRegisters : RegisterCommand → List ℕ → Buffered RegisterPart → Buffered RegisterPart
+unfoldable pub runRegisters : RegisterCommand → List ℕ → Buffered Registers → Buffered Registers
 runRegisters (Matrix k) p s = beside s (withTransform (s .part) (runMatrix k p (s .part .transform)))
 runRegisters (Geometry k) p s =
-    let r : RegisterPart = s .part in
+    let r : Registers = s .part in
     let e = runGeometry k (getD p 0 0) (getD p 1 0) (clipOf (r .transform)) (beside s (r .geometry)) in
     beside e (withGeometry r (e .part))
 -- "only carried: commands 21h, 22h, 2Ah, 2Bh, 30h to 34h, 60h and 70h to 72h take their parameters and change nothing
@@ -43,7 +43,7 @@ withMatrices c m = record { registers = withTransform (c .registers) (m .transfo
 unfoldable pub runOperation : Operation → List ℕ → Buffered Core → Buffered Core
 runOperation (Stack k) p s =
     beside s (withMatrices (s .part) (runStack k (getD p 0 0) (matricesOf (s .part))))
-runOperation (Registers k) p s =
+runOperation (Register k) p s =
     let e = runRegisters k p (beside s (s .part .registers)) in
     beside e (withRegisters (s .part) (e .part))
 

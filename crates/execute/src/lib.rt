@@ -30,7 +30,7 @@ pub enum RegisterCommand {
 // A command, decoded from its byte.
 pub enum Operation {
     Stack(StackCommand),
-    Registers(RegisterCommand),
+    Register(RegisterCommand),
 }
 
 // The commands that are only carried.
@@ -99,7 +99,7 @@ pub fn operation_of(byte: u8) -> Operation
         0x12 => Operation::Stack(StackCommand::Pop),
         0x13 => Operation::Stack(StackCommand::Store),
         0x14 => Operation::Stack(StackCommand::Restore),
-        _ => Operation::Registers(register_command_of(byte)),
+        _ => Operation::Register(register_command_of(byte)),
     }
 }
 
@@ -159,13 +159,13 @@ pub fn run_stacks(core: Core, command: StackCommand, p: u32) -> Core
         command,
         p,
     );
+    let new_transform = m.transform;
+    let new_stacks = m.stacks;
     let mut registers = core.registers;
-    let moved = m.transform;
-    registers.transform = moved;
-    let all = m.stacks;
+    registers.transform = new_transform;
     Core {
         registers: registers,
-        stacks: all,
+        stacks: new_stacks,
     }
 }
 
@@ -186,7 +186,7 @@ pub fn execute(
     let operation = operation_of(byte);
     match operation {
         Operation::Stack(k) => run_stacks(core, k, p[0]),
-        Operation::Registers(k) => {
+        Operation::Register(k) => {
             let r = core.registers;
             let mut n = core;
             n.registers = run_registers(r, k, p, &mut *vertices, &mut *polygons);

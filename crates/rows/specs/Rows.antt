@@ -20,7 +20,7 @@ use Rattle.state.specs.Fresh.{zeros, freshTransform, vertexWidth, freshGeometry
 use Rattle.state.specs.Sound.{pendingOf, soundStream}
 use Rattle.stacks.specs.declared.Matrices.{Matrices}
 use Rattle.stacks.specs.declared.StackCommand.the-variants.{Push, Pop, Store}
-use Rattle.stacks.specs.Matrices.{withTransform, failed}
+use Rattle.stacks.specs.Matrices.{putTransform, failed}
 use Rattle.stacks.specs.Slot.{slotAt}
 use Rattle.stacks.specs.Stack.{level, target, stored, loaded, pushPair, popPair, storePair, runStack}
 use Rattle.transforms.specs.declared.MatrixCommand.the-variants.{Mode}
@@ -71,7 +71,7 @@ inMode1 =
 -- the same with position level 31
 abbrev atLevel31 : Matrices
 atLevel31 =
-    withTransform inMode1
+    putTransform inMode1
     (withPair (inMode1 .transform) (record { position = unit; vector = unit; level = 31 }))
 
 -- after n pushes
@@ -144,7 +144,7 @@ stackRows =
     ∷ row (runStack Pop 1 inMode1) (failed inMode1)
     -- pop 3Fh: level 1, position matrix all zero; the vector matrix is loaded too, and nothing else changes
     ∷ row (runStack Pop 0x3f inMode1)
-    (withTransform inMode1
+    (putTransform inMode1
     (withPair (inMode1 .transform) (record { position = zeros 16; vector = zeros 16; level = 1 })))
     -- 6: store 30 fine, 31 error
     ∷ row (slotAt (runStack Store 30 inMode1 .stacks .positions) 30) unit

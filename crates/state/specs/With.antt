@@ -37,6 +37,7 @@ withError t b = record { pair = t .pair; projection = t .projection; texture = t
 
 -- ---- vertices and polygons
 
+-- the geometry part by its fields
 abbrev geometry : ℕ → ℕ → ℕ → Coordinates → Waiting → Counts → Counts → Bool → Geometry
 geometry colour given attributes position waiting used rooms overflow =
     record {
