@@ -1,1 +1,9 @@
 pub mod PendingLaws
+pub mod QueueLaws
+pub mod CommandLaws
+pub mod StepLaws
+pub mod ReadLaws
+pub mod CallLaws
+pub mod PackLaws
+pub mod LogLaws
+pub mod Demands

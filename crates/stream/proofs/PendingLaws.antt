@@ -14,7 +14,7 @@ use Rattle.stream.specs.Pending.{Pending, upToLast, commandsOf, isEmpty,
 
 -- ---- counted bytes: each is 0 or a command
 
-abbrev AllCounted : List ℕ → Type 0
+abbrev pub AllCounted : List ℕ → Type 0
 AllCounted [] = Unit {0}
 AllCounted (b ∷ bs) = ((b ≡ 0) ⊎ (known b ≡ true)) × AllCounted bs
 
@@ -25,19 +25,19 @@ is-counted b = by (known b) refl
     by true e = inr (ap known (counted-known b e) ∙ e)
     by false e = inl (counted-unknown b e)
 
-bytes-counted : (w : ℕ) → AllCounted (commandBytes w)
+pub bytes-counted : (w : ℕ) → AllCounted (commandBytes w)
 unfolding commandBytes
 bytes-counted w = (is-counted _, (is-counted _, (is-counted _, (is-counted _, tt))))
 
-unknown-zero : known 0 ≡ false
+pub unknown-zero : known 0 ≡ false
 unfolding known lookup commandRows
 unknown-zero = refl
 
-none-for-zero : count 0 ≡ 0
+pub none-for-zero : count 0 ≡ 0
 unfolding count lookup commandRows
 none-for-zero = refl
 
-known-not-zero : (b : ℕ) → known b ≡ true → eqb b 0 ≡ false
+pub known-not-zero : (b : ℕ) → known b ≡ true → eqb b 0 ≡ false
 known-not-zero b k = ne-eqb b 0 (λ e. false≢true (sym (ap known e ∙ unknown-zero) ∙ k))
 
 -- ---- the bytes up to the last command
@@ -51,7 +51,7 @@ up-to-last-short (b ∷ bs) = by (anyCommand (b ∷ bs)) (up-to-last-short bs)
     by false h = omega arith
 
 -- they are all known, but where there is a hole
-all-known : (bs : List ℕ) → AllCounted bs → allKnown (upToLast bs) ≡ not (hole bs)
+pub all-known : (bs : List ℕ) → AllCounted bs → allKnown (upToLast bs) ≡ not (hole bs)
 unfolding hole
 all-known [] a = refl
 all-known (b ∷ bs) (inl e, rest) = rw e (by (anyCommand bs))

@@ -15,6 +15,22 @@ pub record Pending : Type 0 where
   pub dummy : Bool
   pub port : ℕ
 
+-- no command is pending
+abbrev pub idle : Pending
+idle = record { queue = []; held = []; dummy = false; port = 0 }
+
+-- a packed word has run; the dummy word is due if so told
+abbrev pub dummyDue : Bool → Pending
+dummyDue b = record { queue = []; held = []; dummy = b; port = 0 }
+
+-- a packed word's commands are to come, and these parameters of the first of them are held
+abbrev pub queued : List ℕ → List ℕ → Pending
+queued queue held = record { queue = queue; held = held; dummy = false; port = 0 }
+
+-- a port command lacks parameters, and these are held
+abbrev pub portPending : ℕ → List ℕ → Pending
+portPending c held = record { queue = []; held = held; dummy = false; port = c }
+
 -- ---- the commands of a command word
 
 -- bytes up to the last that is a command
