@@ -20,7 +20,7 @@ use Rattle.stream.proofs.StepLaws.{idle-sound, sound-idle, AllComplete,
 use Rattle.stream.proofs.ReadLaws.{Reads, Moves, reads-scan, scan-reads, reads-complete, stopped-number}
 use Rattle.stream.proofs.CallLaws.{simulated}
 use Rattle.stream.proofs.PackLaws.{word-moves, read-words, length-packed}
-use Rattle.stream.proofs.LogLaws.{normal-writes, length-zeroed, log-parameters, words-bound}
+use Rattle.stream.proofs.LogLaws.{zeroed-writes, length-zeroed, log-parameters, words-bound}
 
 -- ---- a log that is read, and one that the packer accepts
 
@@ -38,7 +38,7 @@ log-read l cs e =
     record {
       reads = subst (λ (s : Pending). Reads (Moves portStep) idle l cs s) z (r .reads);
       all-complete = h .0;
-      are-writes = normal-writes l cs e;
+      are-writes = zeroed-writes l cs e;
     }
 
 -- what the packer read, and what it answers

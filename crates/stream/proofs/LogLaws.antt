@@ -132,9 +132,9 @@ writes-behind (one {s = s} {t = t} {a = w} {l = l} {cs = cs} {ds = ds} p r) e b 
     k .1 (zeroed l) ds (writes-behind r (g .0) (k .0) f)
 
 -- the log is the writes of its commands
-pub normal-writes : (l : List Write) (cs : List Command) → logCommands l ≡ commands cs → zeroed l ≡ allWrites cs
+pub zeroed-writes : (l : List Write) (cs : List Command) → logCommands l ≡ commands cs → zeroed l ≡ allWrites cs
 unfolding heldWrites logCommands
-normal-writes l cs e =
+zeroed-writes l cs e =
     let r = scan-reads portStep l cs 0 0 idle e in
     writes-behind (r .reads) idle-sound refl (r .finished)
 

@@ -1,9 +1,8 @@
 -- The word call and the port write call over any engine: document 01, "Numbers a call can refuse with". State is the
--- engine without its stream, together with the caller's buffers; exec is what a command does to it; sound and longEnough
--- say that numbers 1 and 2 do not fall. Assumes nothing.
-use mathlib.Core.Bool.{Bool, true, cond, _&&_}
+-- engine without its stream, together with the caller's buffers; exec is what a command does to it; sound and
+-- longEnough say that numbers 1 and 2 do not fall. Assumes nothing.
+use mathlib.Core.Bool.{Bool, cond, _&&_}
 use mathlib.Core.List.{List, [], _∷_}
-use mathlib.Core.Path.{_≡_}
 use Prim.Native.Nat.{ℕ}
 use Rattle.stream.specs.Pending.{Pending, soundPending}
 use Rattle.stream.specs.Command.{Command, Write}

@@ -36,8 +36,8 @@ module _ {State : Type 0} (exec : Command → State → State) (sound longEnough
   abbrev pub afterWords : Machine State → List ℕ → Machine State
   afterWords m words = after (wordCall exec sound longEnough) m words
 
-  -- "a single claim about the whole log": "every call answers number 0, the two ends are equal with no command begun, and
-  -- the packed length is the one computed from the log"
+  -- "a single claim about the whole log": "every call answers number 0, the two ends are equal with no command begun,
+  -- and the packed length is the one computed from the log"
   pub record Demand3 (capacity : ℕ) (log : List ℕ) (m : Machine State) : Type 0 where
     pub writes-taken : AllTaken (portCall exec sound longEnough) m (writes log)
     pub words-taken : AllTaken (wordCall exec sound longEnough) m (pack capacity log .words)

@@ -16,9 +16,9 @@ abbrev pub prepend : List Command → Read → Read
 prepend cs (stopped n place) = stopped n place
 prepend cs (commands ds) = commands (cs ++ ds)
 
--- Item by item: i is the next item's place, b the place of the item that began what is pending. Document 01: "The answer
--- carries a place, counted from 0: the pair or word for 3, 5, 6; for 8 the pair, or command word, that begins what is
--- unfinished"; 8: "log or list ends inside a command, or before its dummy"
+-- Item by item: i is the next item's place, b the place of the item that began what is pending. Document 01: "The
+-- answer carries a place, counted from 0: the pair or word for 3, 5, 6; for 8 the pair, or command word, that begins
+-- what is unfinished"; 8: "log or list ends inside a command, or before its dummy"
 module _ {A : Type 0} (step : Pending → A → Step) where
   abbrev pub scan : List A → ℕ → ℕ → Pending → Read
   scan [] i b s = cond (isPending s) (stopped 8 b) (commands [])
@@ -32,7 +32,8 @@ writes (a ∷ []) = []
 writes (a ∷ v ∷ l) = write a v ∷ writes l
 
 -- Document 01: "Its commands, in order: a write to a port without parameters is one; for any other port it is as many
--- writes in a row as the table gives." `normal-writes` (proofs/LogLaws) says that the log is the writes of these commands.
+-- writes in a row as the table gives." A log whose reading does not stop is the writes of these commands, but for the
+-- values that ports without parameters get (`zeroed-writes`, proofs/LogLaws).
 unfoldable pub logCommands : List Write → Read
 logCommands l = scan portStep l 0 0 idle
 

@@ -1,6 +1,6 @@
--- What a packed word and a port write do: document 01, "Commands and their parameters", Packed and Ports. Each is refused
--- with a number, or leaves something pending and completes commands. No engine is named: the engine runs the commands, the
--- unpacker writes them down. Assumes nothing.
+-- What a packed word and a port write do: document 01, "Commands and their parameters", Packed and Ports. Each is
+-- refused with a number, or leaves something pending and completes commands. No engine is named: the engine runs the
+-- commands, the unpacker writes them down. Assumes nothing.
 use mathlib.Core.Bool.{Bool, true, false, cond, _||_}
 use mathlib.Core.List.{List, [], _∷_, _++_}
 use Prim.Native.Nat.{ℕ}

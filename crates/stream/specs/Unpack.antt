@@ -1,4 +1,5 @@
--- Unpacking, and what a log reads as once it is packed and unpacked: document 01, "Packer and unpacker". Assumes nothing.
+-- Unpacking, and what a log reads as once it is packed and unpacked: document 01, "Packer and unpacker".
+-- Assumes nothing.
 use mathlib.Core.Bool.{cond}
 use mathlib.Core.List.{List, [], _∷_, _++_}
 use Prim.Native.Nat.{ℕ}

@@ -1,0 +1,4 @@
+pub mod AtOnce
+pub mod Streams
+pub mod Packed
+pub mod Ports
