@@ -8,7 +8,7 @@ ghost use lib.ListN.{length};
 ghost use Rattle.state.specs.With.{withOverflow};
 ghost use Rattle.state.specs.Fresh.{vertexWidth};
 ghost use Rattle.polygons.specs.Buffers.{buffered, polygonWidth, withVertex, withVertices};
-ghost use Rattle.polygons.specs.Buffers.{withPolygon};
+ghost use Rattle.polygons.specs.Buffers.{longEnough, withPolygon};
 ghost use Rattle.polygons.specs.Records.{vertexRecord, polygonRecord};
 ghost use Rattle.polygons.specs.Store.{hasRoom, oneMore, storePolygon};
 ghost use Rattle.polygons.specs.Bounds.{Bounds};
@@ -24,6 +24,14 @@ const POLYGON_WIDTH: usize = 3;
 
 // A polygon as the caller's buffer holds it: first vertex, 3 or 4, attributes.
 type PolygonRecord = [u32; POLYGON_WIDTH];
+
+// The caller's buffers are as long as the rooms ask. For the crates above this one: number 1 does not fall.
+pub fn is_long_enough(rooms: Counts, vertices: usize, polygons: usize) -> bool
+    requires { ⌜ (rooms .vertices ≤ 6144) × (rooms .polygons ≤ 2048) ⌝ }
+    ensures { λ r. ⌜ r ≡ longEnough rooms vertices polygons ⌝ }
+{
+    (VERTEX_WIDTH * rooms.vertices <= vertices) & (POLYGON_WIDTH * rooms.polygons <= polygons)
+}
 
 // The clip vertex of a position, joined with the colour. For the crates above this one.
 pub fn vertex_record(p: Coordinates, colour: u32, clip: [i32; 16]) -> VertexRecord

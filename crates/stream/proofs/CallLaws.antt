@@ -1,12 +1,12 @@
--- Laws of the calls, the same for words and port writes: a call keeps a machine usable, and over items that are read
--- every call is taken and the commands that were read have run. Assumes nothing.
+-- Laws of the calls, the same for words and port writes: a call keeps what every command keeps, and over items that are
+-- read every call is taken and the commands that were read have run. Assumes nothing.
 use mathlib.Core.Bool.{Bool, true, false, cond, _&&_}
 use mathlib.Core.List.{List, [], _∷_, _++_}
 use mathlib.Core.Path.{_≡_, refl, ap, subst}
 use Rattle.stream.specs.Pending.{Pending, soundPending}
 use Rattle.stream.specs.Command.{Command, Complete}
-use Rattle.stream.specs.Step.{Step, refused, taken, caseStep}
-use Rattle.stream.specs.Call.{Machine, Reply, machine, reply, run, callBy}
+use Rattle.stream.specs.Step.{Step, refused, taken}
+use Rattle.stream.specs.Call.{Machine, Reply, machine, reply, run, afterStep, callBy}
 use Rattle.stream.specs.Demand3.{after, AllTaken, Usable}
 use Rattle.stream.proofs.StepLaws.{AllComplete, KeepsSound}
 use Rattle.stream.proofs.ReadLaws.{Reads, none, one, Moves}
@@ -16,54 +16,58 @@ run-append : {State : Type 0} (exec : Command → State → State) (cs ds : List
 run-append exec [] ds s = refl
 run-append exec (c ∷ cs) ds s = run-append exec cs ds (exec c s)
 
-module _ {State : Type 0} (exec : Command → State → State) (sound longEnough : State → Bool) where
-  -- neither number 1 nor number 2 falls on the machine
-  abbrev pub UsableMachine : Machine State → Type 0
+-- what every command keeps, a call keeps, and the stream stays sound; whatever number the call answers
+module _ {State : Type 0} (exec : Command → State → State) (Keeping : State → Type 0)
+    (keeps : (c : Command) (s : State) → Complete c → Keeping s → Keeping (exec c s)) where
+  pub run-keeps : (cs : List Command) (s : State) → AllComplete cs → Keeping s → Keeping (run exec cs s)
+  run-keeps [] s w k = k
+  run-keeps (c ∷ cs) s w k = run-keeps cs (exec c s) (w .1) (keeps c s (w .0) k)
+
+  abbrev pub KeepingMachine : Machine State → Type 0
+  KeepingMachine m = Keeping (m .state) × (soundPending (m .pending) ≡ true)
+
+  pub call-keeps : (sound longEnough : State → Bool) {A : Type 0} (step : Pending → A → Step)
+      → ((p : Pending) (a : A) → soundPending p ≡ true → KeepsSound (step p a))
+      → (m : Machine State) (a : A) → KeepingMachine m
+      → KeepingMachine (callBy exec sound longEnough step m a .left)
+  unfolding callBy
+  call-keeps sound longEnough step step-keeps m a k =
+      by (sound (m .state) && soundPending (m .pending)) (longEnough (m .state)) (step (m .pending) a)
+      (step-keeps (m .pending) a (k .1))
+    where
+      by : (t l : Bool) (x : Step) → KeepsSound x
+          → KeepingMachine (cond t (cond l (afterStep exec m x) (reply 2 m)) (reply 1 m) .left)
+      by false l x g = k
+      by true false x g = k
+      by true true (refused n) g = k
+      by true true (taken p cs) g = (run-keeps cs (m .state) (g .1) (k .0), g .0)
+
+module _ {State : Type 0} (exec : Command → State → State) (sound longEnough : State → Bool)
+    (keeps : (c : Command) (s : State) → Complete c → Usable exec sound longEnough s
+    → Usable exec sound longEnough (exec c s))
+    {A : Type 0} (step : Pending → A → Step)
+    (step-keeps : (p : Pending) (a : A) → soundPending p ≡ true → KeepsSound (step p a)) where
+  abbrev UsableMachine : Machine State → Type 0
   UsableMachine m = Usable exec sound longEnough (m .state) × (soundPending (m .pending) ≡ true)
 
-  module _ (keeps : (c : Command) (s : State) → Complete c → Usable exec sound longEnough s
-      → Usable exec sound longEnough (exec c s)) where
-    run-usable : (cs : List Command) (s : State) → AllComplete cs → Usable exec sound longEnough s
-        → Usable exec sound longEnough (run exec cs s)
-    run-usable [] s w f = f
-    run-usable (c ∷ cs) s w f = run-usable cs (exec c s) (w .1) (keeps c s (w .0) f)
+  taken-call : (p q : Pending) (a : A) (cs : List Command) (s : State) → step p a ≡ taken q cs
+      → UsableMachine (machine s p)
+      → callBy exec sound longEnough step (machine s p) a ≡ reply 0 (machine (run exec cs s) q)
+  unfolding callBy
+  taken-call p q a cs s e u = rw (u .0 .is-sound, u .1, u .0 .is-long-enough, e)
 
-    module _ {A : Type 0} (step : Pending → A → Step)
-        (step-keeps : (p : Pending) (a : A) → soundPending p ≡ true → KeepsSound (step p a)) where
-      -- whatever number the call answers
-      pub call-keeps : (m : Machine State) (a : A) → UsableMachine m
-          → UsableMachine (callBy exec sound longEnough step m a .left)
-      unfolding callBy
-      call-keeps m a u =
-          by (sound (m .state) && soundPending (m .pending)) (longEnough (m .state)) (step (m .pending) a)
-          (step-keeps (m .pending) a (u .1))
-        where
-          by : (t l : Bool) (x : Step) → KeepsSound x
-              → UsableMachine (cond t (cond l (caseStep x (λ n. reply n m)
-              (λ p cs. reply 0 (machine (run exec cs (m .state)) p))) (reply 2 m)) (reply 1 m) .left)
-          by false l x g = u
-          by true false x g = u
-          by true true (refused n) g = u
-          by true true (taken p cs) g = (run-usable cs (m .state) (g .1) (u .0), g .0)
+  pub record Simulated (p : Pending) (l : List A) (cs : List Command) (u : Pending) (s : State) : Type 0 where
+    pub all-taken : AllTaken (callBy exec sound longEnough step) (machine s p) l
+    pub end : after (callBy exec sound longEnough step) (machine s p) l ≡ machine (run exec cs s) u
 
-      taken-call : (p q : Pending) (a : A) (cs : List Command) (s : State) → step p a ≡ taken q cs
-          → UsableMachine (machine s p)
-          → callBy exec sound longEnough step (machine s p) a ≡ reply 0 (machine (run exec cs s) q)
-      unfolding callBy
-      taken-call p q a cs s e u = rw (u .0 .is-sound, u .1, u .0 .is-long-enough, e)
-
-      pub record Simulated (p : Pending) (l : List A) (cs : List Command) (u : Pending) (s : State) : Type 0 where
-        pub all-taken : AllTaken (callBy exec sound longEnough step) (machine s p) l
-        pub end : after (callBy exec sound longEnough step) (machine s p) l ≡ machine (run exec cs s) u
-
-      pub simulated : {p u : Pending} {l : List A} {cs : List Command} → Reads (Moves step) p l cs u → (s : State)
-          → UsableMachine (machine s p) → Simulated p l cs u s
-      simulated none s f = record { all-taken = tt; end = refl }
-      simulated (one {s = p} {t = q} {a = a} {cs = cs} {ds = ds} e r) s f =
-          let g : KeepsSound (taken q cs) = subst KeepsSound e (step-keeps p a (f .1)) in
-          let c = taken-call p q a cs s e f in
-          let rest = simulated r (run exec cs s) (run-usable cs s (g .1) (f .0), g .0) in
-          record {
-            all-taken = (ap (λ (x : Reply State). x .number) c, rw c (rest .all-taken));
-            end = rw (c, run-append exec cs ds s) (rest .end);
-          }
+  pub simulated : {p u : Pending} {l : List A} {cs : List Command} → Reads (Moves step) p l cs u → (s : State)
+      → UsableMachine (machine s p) → Simulated p l cs u s
+  simulated none s f = record { all-taken = tt; end = refl }
+  simulated (one {s = p} {t = q} {a = a} {cs = cs} {ds = ds} e r) s f =
+      let g : KeepsSound (taken q cs) = subst KeepsSound e (step-keeps p a (f .1)) in
+      let c = taken-call p q a cs s e f in
+      let rest = simulated r (run exec cs s) (run-keeps exec (Usable exec sound longEnough) keeps cs s (g .1) (f .0), g .0) in
+      record {
+        all-taken = (ap (λ (x : Reply State). x .number) c, rw c (rest .all-taken));
+        end = rw (c, run-append exec cs ds s) (rest .end);
+      }

@@ -6,7 +6,7 @@ use mathlib.Core.List.{List, [], _∷_}
 use Prim.Native.Nat.{ℕ}
 use Rattle.stream.specs.Pending.{Pending, soundPending}
 use Rattle.stream.specs.Command.{Command, Write}
-use Rattle.stream.specs.Step.{Step, caseStep, wordStep, portStep}
+use Rattle.stream.specs.Step.{Step, refused, taken, wordStep, portStep}
 
 -- an engine with its buffers, and what is pending in its stream
 pub record Machine (State : Type 0) : Type 0 where
@@ -33,16 +33,17 @@ module _ {State : Type 0} (exec : Command → State → State) where
   run [] s = s
   run (c ∷ cs) s = run cs (exec c s)
 
+  -- "A refused call changes nothing"; of a step that is taken the completed commands run
+  abbrev pub afterStep : Machine State → Step → Reply State
+  afterStep m (refused n) = reply n m
+  afterStep m (taken p cs) = reply 0 (machine (run cs (m .state)) p)
+
 module _ {State : Type 0} (exec : Command → State → State) (sound longEnough : State → Bool) where
-  -- 1, 2, and then the step's own numbers; "A refused call changes nothing"
+  -- 1, 2, and then the step's own numbers
   unfoldable pub callBy : {A : Type 0} → (Pending → A → Step) → Machine State → A → Reply State
   callBy step m a =
       cond (sound (m .state) && soundPending (m .pending))
-      (cond (longEnough (m .state))
-      (caseStep (step (m .pending) a)
-      (λ n. reply n m)
-      (λ p cs. reply 0 (machine (run exec cs (m .state)) p)))
-      (reply 2 m))
+      (cond (longEnough (m .state)) (afterStep exec m (step (m .pending) a)) (reply 2 m))
       (reply 1 m)
 
   -- "word 1, 2, 4, 3 (3 only where a command word is due)"

@@ -1,0 +1,89 @@
+-- `engine::port_write` meets its contract. Assumes nothing.
+use mathlib.Core.Path.{sym, ap, _∙_}
+use Prim.Native.Nat.{ℕ}
+use lib.ListN.{length}
+use borrow.Author.Needs.{needs}
+use Rattle.stream.specs.Command.{write}
+use Rattle.stream.specs.Step.{portStep}
+use Rattle.stream.specs.Call.{reply, afterStep}
+use Rattle.state.specs.declared.Answer.{Answer}
+use Rattle.engine.specs.Call.{exec, machineOf, replyOf}
+use Rattle.engine.proofs.Calls.{Usable, usable, sound-core, sound-stream, refused-first, by-step, given-back}
+use Rattle.engine.proofs.port_write.Statement.{statement}
+use Rattle.engine.proofs.port_write.Tie as tie
+
+parameter-table-requires : tie.Need-parameter-table-requires
+parameter-table-requires c κs = search needs
+
+first-number-requires : tie.Need-first-number-requires
+first-number-requires c κs = search needs
+
+answered-requires : tie.Need-answered-requires
+answered-requires c κs = search needs
+
+returns : tie.Need-returns
+returns c =
+    let a = c .before .before .before .before .before .before .args in
+    let n = c .before .before .first-number in
+    let v = a .vertices .now in
+    let p = a .polygons .now in (
+      ap (λ (r : Answer). replyOf r v p) (c .answered .ensures)
+          ∙ ap (λ (k : ℕ). reply k (machineOf (a .e) v p)) (n .ensures)
+          ∙ sym (refused-first portStep (a .e) v p (write (a .address) (a .value))
+          (λ z. c .before .if1 .taken (n .ensures ∙ z))),
+      given-back (a .e) _ _ (c .answered .ensures),
+    )
+
+usable-at : (c : tie.Else1) → let a = c .before .before .before .before .before .args in
+    Usable (a .e) (length (a .vertices .now)) (length (a .polygons .now))
+usable-at c = usable _ _ _ (sym (c .before .first-number .ensures) ∙ c .if1 .left)
+
+port-step-requires : tie.Need-port-step-requires
+port-step-requires c κs = (
+  search needs,
+  sound-stream
+      (c .before .before .before .before .before .before .before .args .e) (usable-at (c .before .before) .is-sound),
+)
+
+after-step-requires : tie.Need-after-step-requires
+after-step-requires c κs =
+    let u = usable-at (c .before .before .before .before .before) in (
+      sound-core (c .before .before .before .before .before .before .before .before .before .before .args .e)
+          (u .is-sound),
+      u .is-long,
+    )
+
+same-length : tie.Need-same-length
+same-length c = search needs
+
+same-length-2 : tie.Need-same-length-2
+same-length-2 c = search needs
+
+returns-2 : tie.Need-returns-2
+returns-2 c =
+    let a = c .before .before .before .before .before .before .before .before .before .before .before .before .before
+    .before .args in
+    let v = a .vertices .now in
+    let p = a .polygons .now in
+    let done = c .before .before .before .after-step in (
+      done .ensures .0
+          ∙ ap (afterStep exec (machineOf (a .e) v p)) (c .before .before .before .before .before .before .port-step .ensures)
+          ∙ sym (by-step portStep (a .e) v p (write (a .address) (a .value))
+          (sym (c .before .before .before .before .before .before .before .before .before .before .first-number .ensures) ∙
+          c .before .before .before .before .before .before .before .before .before .if1 .left)),
+      done .ensures .1,
+    )
+
+pub port-write-spec : {M : Type 1} → statement M
+port-write-spec =
+    tie.close
+    (tie.spec
+    parameter-table-requires
+    first-number-requires
+    answered-requires
+    returns
+    port-step-requires
+    after-step-requires
+    same-length
+    same-length-2
+    returns-2)

@@ -1,0 +1,148 @@
+// The engine's two calls: one packed word, one port write. The record goes by value; the caller's two buffers are
+// borrowed for the call.
+ghost use mathlib.Core.Path.{_≡_};
+ghost use mathlib.Core.Bool.{true};
+ghost use lib.ListN.{length};
+ghost use Rattle.words.specs.Words.{bytes};
+ghost use Rattle.commands.specs.Commands.{parameterTable};
+ghost use Rattle.stream.specs.Command.{write};
+ghost use Rattle.stream.specs.Call.{run, afterStep};
+ghost use Rattle.state.specs.Sound.{soundCore};
+ghost use Rattle.polygons.specs.Buffers.{buffered, longEnough};
+ghost use Rattle.steps.specs.Outcome.{commandsWith, stepOf};
+ghost use Rattle.engine.specs.Call.{exec, firstNumber, machineOf, replyOf, GivenBack, wordReply, portReply};
+use commands::parameter_table;
+use execute::Operation;
+use execute::operation_of;
+use execute::run_registers;
+use execute::run_stacks;
+use polygons::is_long_enough;
+use state::Answer;
+use state::Core;
+use state::Engine;
+use state::answered;
+use state::is_sound_in;
+use steps::Outcome;
+use steps::port_step;
+use steps::word_step;
+
+// Runs the commands of the lowest `count` bytes of a word, from the lowest on, each with the first parameters that are
+// held, as many as it takes.
+fn run_commands(
+    core: Core,
+    commands: u32,
+    count: usize,
+    held: [u32; 32],
+    vertices: &mut [i32],
+    polygons: &mut [u32],
+) -> Core
+    requires { ⌜ soundCore core ≡ true ⌝ }
+    requires { ⌜ longEnough (core .registers .geometry .rooms) (length (now vertices)) (length (now polygons))
+        ≡ true ⌝ }
+    ensures { λ r. ⌜ buffered r (now (vertices .exit)) (now (polygons .exit))
+        ≡ run exec (commandsWith held (bytes count commands))
+        (buffered core (now (vertices .entry)) (now (polygons .entry))) ⌝ }
+{
+    let mut n = core;
+    let mut rest = commands;
+    let mut left = count;
+    while 0 < left {
+        match operation_of((rest % 256) as u8) {
+            Operation::Stack(k) => {
+                n = run_stacks(n, k, held[0]);
+            }
+            Operation::Register(k) => {
+                let r = n.registers;
+                n.registers = run_registers(r, k, held, &mut *vertices, &mut *polygons);
+            }
+        }
+        rest = rest / 256;
+        left -= 1;
+    }
+    n
+}
+
+// Number 1 or 2, or 0 where neither falls.
+fn first_number(table: &[u8; 256], e: Engine, vertices: usize, polygons: usize) -> u32
+    requires { ⌜ now table ≡ parameterTable ⌝ }
+    ensures { λ r. ⌜ r ≡ firstNumber e vertices polygons ⌝ }
+{
+    if !is_sound_in(table, e) {
+        return 1;
+    }
+    let rooms = e.core.registers.geometry.rooms;
+    if is_long_enough(rooms, vertices, polygons) {
+        0
+    } else {
+        2
+    }
+}
+
+// The answer to a word or a port write: its refusal, or the engine after the commands that it completes.
+fn after_step(e: Engine, step: Outcome, vertices: &mut [i32], polygons: &mut [u32]) -> Answer
+    requires { ⌜ soundCore (e .core) ≡ true ⌝ }
+    requires { ⌜ longEnough (e .core .registers .geometry .rooms) (length (now vertices)) (length (now polygons))
+        ≡ true ⌝ }
+    ensures { λ r. ⌜ replyOf r (now (vertices .exit)) (now (polygons .exit))
+        ≡ afterStep exec (machineOf e (now (vertices .entry)) (now (polygons .entry))) (stepOf step) ⌝ }
+    ensures { λ r. ⌜ GivenBack e r ⌝ }
+{
+    if step.number != 0 {
+        return answered(step.number, e);
+    }
+    let stream = step.stream;
+    let held = stream.held;
+    let core = run_commands(
+        e.core,
+        step.commands,
+        step.completed,
+        held,
+        &mut *vertices,
+        &mut *polygons,
+    );
+    answered(
+        0,
+        Engine {
+            core: core,
+            stream: stream,
+        },
+    )
+}
+
+// One packed word.
+pub fn word(e: Engine, w: u32, vertices: &mut [i32], polygons: &mut [u32]) -> Answer
+    ensures { λ r. ⌜ replyOf r (now (vertices .exit)) (now (polygons .exit))
+        ≡ wordReply (machineOf e (now (vertices .entry)) (now (polygons .entry))) w ⌝ }
+    ensures { λ r. ⌜ GivenBack e r ⌝ }
+{
+    let table = parameter_table();
+    let number = first_number(&table, e, vertices.len(), polygons.len());
+    if number != 0 {
+        return answered(number, e);
+    }
+    let stream = e.stream;
+    let step = word_step(&table, stream, w);
+    after_step(e, step, &mut *vertices, &mut *polygons)
+}
+
+// One port write.
+pub fn port_write(
+    e: Engine,
+    address: u32,
+    value: u32,
+    vertices: &mut [i32],
+    polygons: &mut [u32],
+) -> Answer
+    ensures { λ r. ⌜ replyOf r (now (vertices .exit)) (now (polygons .exit))
+        ≡ portReply (machineOf e (now (vertices .entry)) (now (polygons .entry))) (write address value) ⌝ }
+    ensures { λ r. ⌜ GivenBack e r ⌝ }
+{
+    let table = parameter_table();
+    let number = first_number(&table, e, vertices.len(), polygons.len());
+    if number != 0 {
+        return answered(number, e);
+    }
+    let stream = e.stream;
+    let step = port_step(&table, stream, address, value);
+    after_step(e, step, &mut *vertices, &mut *polygons)
+}
