@@ -1,7 +1,7 @@
 -- What the definition of a call gives, case by case: the same for words and port writes. Assumes nothing.
 use mathlib.Core.Bool.{Bool, true, false, cond, _&&_}
 use mathlib.Core.List.{List}
-use mathlib.Core.Path.{_≡_, refl, ap}
+use mathlib.Core.Path.{_≡_, refl, ap, _∙_}
 use Prim.Native.Nat.{ℕ, _≤_}
 use native.Mathlib.Omega.{arith}
 use lib.IntN.{ℤ}
@@ -40,17 +40,13 @@ module _ (e : Engine) (vertices polygons : ℕ) where
   unfolding firstNumber
   neither s l = rw (s, l)
 
-  -- where neither falls
-  pub record Usable : Type 0 where
-    pub is-sound : sound e ≡ true
-    pub is-long : isLong ≡ true
-
-  pub usable : firstNumber e vertices polygons ≡ 0 → Usable
+  pub neither-falls : firstNumber e vertices polygons ≡ 0 → (sound e ≡ true) × (isLong ≡ true)
   unfolding firstNumber
-  usable = by (sound e) isLong refl refl
+  neither-falls = by (sound e) isLong refl refl
     where
-      by : (s l : Bool) → sound e ≡ s → isLong ≡ l → _≡_ {A = ℕ} (cond s (cond l 0 2) 1) 0 → Usable
-      by true true p q z = record { is-sound = p; is-long = q }
+      by : (s l : Bool) → sound e ≡ s → isLong ≡ l → _≡_ {A = ℕ} (cond s (cond l 0 2) 1) 0
+          → (sound e ≡ true) × (isLong ≡ true)
+      by true true p q z = (p, q)
       by true false p q z = absurd (omega arith)
       by false l p q z = absurd (omega arith)
 
@@ -89,7 +85,7 @@ module _ {A : Type 0} (step : Pending → A → Step) (e : Engine) (vertices : L
   pub by-step : number ≡ 0
       → callBy exec coreSound buffersLong step m a ≡ afterStep exec m (step (pendingOf (e .stream)) a)
   unfolding callBy sound soundStream
-  by-step z = let u = usable e (length vertices) (length polygons) z in rw (u .is-sound, u .is-long)
+  by-step z = let u = neither-falls e (length vertices) (length polygons) z in rw (u .0, u .1)
 
 -- ---- after the step
 
@@ -102,6 +98,12 @@ module _ (m : Machine (Buffered Core)) (r : Outcome) where
       → afterStep exec m (stepOf r) ≡ reply 0 (machine (run exec (completed r) (m .state)) (pendingOf (r .stream)))
   unfolding stepOf
   taken-step z = rw (eq-eqb (r .number) 0 z)
+
+  -- no command is complete
+  pub none-to-run : r .number ≡ 0 → r .completed ≡ 0
+      → afterStep exec m (stepOf r) ≡ reply 0 (machine (m .state) (pendingOf (r .stream)))
+  unfolding completed
+  none-to-run z n = taken-step z ∙ rw n
 
 -- ---- the record that comes back
 

@@ -60,5 +60,6 @@ one-run held n word s (suc left) rest t h r =
       kept = core-kept-more s t (execute b held t) (r .kept) e;
       long = long-enough-kept t (execute b held t) e (r .long);
       same = rw one
-          (ap (run exec (commandsWith held (bytes left (rest / 256)))) (sym (exec-held b held t (omega arith))) ∙ r .same);
+          (ap (run exec (commandsWith held (bytes left (rest / 256)))) (sym (exec-held b held t (omega arith)))
+          ∙ r .same);
     }

@@ -91,6 +91,11 @@ fn after_step(e: Engine, step: Outcome, vertices: &mut [i32], polygons: &mut [u3
         return answered(step.number, e);
     }
     let stream = step.stream;
+    if step.completed == 0 {
+        let mut n = e;
+        n.stream = stream;
+        return answered(0, n);
+    }
     let held = stream.held;
     let core = run_commands(
         e.core,

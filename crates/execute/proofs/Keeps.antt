@@ -3,20 +3,18 @@ use mathlib.Core.Bool.{true}
 use mathlib.Core.List.{List}
 use mathlib.Core.Path.{_≡_, refl}
 use Prim.Native.Nat.{ℕ}
-use lib.IntN.{ℤ}
 use lib.ListN.{length, getD}
 use Rattle.state.specs.declared.Registers.{Registers}
 use Rattle.state.specs.declared.Core.{Core}
-use Rattle.state.specs.declared.Engine.{Engine}
-use Rattle.state.specs.With.{withRegisters, withCore}
+use Rattle.state.specs.With.{withRegisters}
 use Rattle.state.specs.Sound.{soundTransform, soundGeometry, soundCore, sound}
-use Rattle.state.proofs.SoundLaws.{core-parts, parts-core, sound-parts, core-kept}
+use Rattle.state.proofs.SoundLaws.{core-parts, parts-core}
 use Rattle.state.proofs.GeometryLaws.{geometry-ranges, geometry-in-ranges}
 use Rattle.state.specs.Clip.{clipOf}
 use Rattle.stacks.specs.Stack.{runStack}
 use Rattle.stacks.proofs.Keeps.{run-stack}
 use Rattle.transforms.proofs.Keeps.{run-matrix}
-use Rattle.polygons.specs.Buffers.{Buffered, buffered, beside, longEnough}
+use Rattle.polygons.specs.Buffers.{Buffered, beside, longEnough}
 use Rattle.geometry.proofs.Keeps.{run-geometry}
 use Rattle.execute.specs.declared.RegisterCommand.{RegisterCommand}
 use Rattle.execute.specs.declared.RegisterCommand.the-variants.{Matrix, Geometry, Carried, NoCommand}
@@ -102,15 +100,6 @@ pub execute-kept : (byte : ℕ) (p : List ℕ) (s : Buffered Core) → soundCore
     → CoreKept s (execute byte p s)
 unfolding execute
 execute-kept byte p s h = operation-kept (operationOf byte) p s h
-
--- the engine whose core ran it
-pub execute-sound : (byte : ℕ) (p : List ℕ) (e : Engine) (vertices : List ℤ) (polygons : List ℕ) → sound e ≡ true
-    → sound (withCore e (execute byte p (buffered (e .core) vertices polygons) .part)) ≡ true
-execute-sound byte p e vertices polygons h =
-    let s = buffered (e .core) vertices polygons in
-    let parts = sound-parts e h in
-    let core = parts-core (e .core) (parts .transform) (parts .geometry) in
-    core-kept e (execute byte p s .part) h (execute-kept byte p s core .sound)
 
 -- buffers that were long enough still are
 abbrev pub LongEnough : Buffered Core → Type 0

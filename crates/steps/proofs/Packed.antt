@@ -12,7 +12,7 @@ use Rattle.commands.specs.Commands.{commandRows, lookup, known, count, counted,
 use Rattle.commands.proofs.Table.{count-small}
 use Rattle.stream.specs.Pending.{Pending, idle, commandsOf}
 use Rattle.stream.specs.Command.{Command, command}
-use Rattle.stream.specs.Step.{refused, taken, atOnce, afterThem, commandWord, parameterWord, wordStep}
+use Rattle.stream.specs.Step.{refused, accepted, atOnce, afterThem, commandWord, parameterWord, wordStep}
 use Rattle.stream.proofs.QueueLaws.{commands-next, commands-none}
 use Rattle.state.specs.declared.Stream.{Stream}
 use Rattle.state.specs.Sound.{pendingOf}
@@ -29,28 +29,28 @@ pub idle-pending : (held : List ℕ) → pendingOf (idleStream held) ≡ idle
 unfolding pendingOf
 idle-pending held = rw commands-of-zero
 
-pub idle-outcome : (held : List ℕ) → stepOf (outcome 0 (idleStream held) 0 0) ≡ taken idle []
+pub idle-outcome : (held : List ℕ) → stepOf (outcome 0 (idleStream held) 0 0) ≡ accepted idle []
 unfolding stepOf completed
-idle-outcome held = ap (λ (p : Pending). taken p []) (idle-pending held)
+idle-outcome held = ap (λ (p : Pending). accepted p []) (idle-pending held)
 
 -- a command word, the commands at its front run
 pub settled : (queue n rest : ℕ) (dummy : Bool) (held : List ℕ) → RunAtOnce n queue
     → pendingRest rest dummy ≡ afterThem false (commandsOf queue)
     → stepOf (outcome 0 (streamAfter rest dummy held) queue n)
-    ≡ taken (afterThem false (commandsOf queue)) (atOnce (commandsOf queue))
+    ≡ accepted (afterThem false (commandsOf queue)) (atOnce (commandsOf queue))
 unfolding stepOf completed pendingOf
-settled queue n rest dummy held run left = ap₂ taken left (run held)
+settled queue n rest dummy held run left = ap₂ accepted left (run held)
 
 -- the queue behind a command that has its last parameter
 pub settled-behind : (queue n rest : ℕ) (dummy : Bool) (held : List ℕ) → RunAtOnce n (queue / 256)
     → pendingRest rest dummy ≡ afterThem false (commandsOf (queue / 256))
     → stepOf (outcome 0 (streamAfter rest dummy held) queue (n + 1))
-    ≡ taken (afterThem false (commandsOf (queue / 256)))
+    ≡ accepted (afterThem false (commandsOf (queue / 256)))
     (command (queue % 256) (take (count (queue % 256)) held) ∷ atOnce (commandsOf (queue / 256)))
 unfolding stepOf completed pendingOf
 settled-behind queue n rest dummy held run left =
     rw (add-one n)
-    (ap₂ (λ (p : Pending) (cs : List Command). taken p (command (queue % 256) (take (count (queue % 256)) held) ∷ cs))
+    (ap₂ (λ (p : Pending) (cs : List Command). accepted p (command (queue % 256) (take (count (queue % 256)) held) ∷ cs))
     left (run held))
 
 -- ---- the definition
@@ -60,7 +60,7 @@ module _ (s : Stream) (w : ℕ) where
   unfolding wordStep pendingOf
   port-unfinished p = rw (ne-eqb (s .port) 0 p)
 
-  pub dummy-taken : s .port ≡ 0 → s .dummy ≡ true → wordStep (pendingOf s) w ≡ taken idle []
+  pub dummy-taken : s .port ≡ 0 → s .dummy ≡ true → wordStep (pendingOf s) w ≡ accepted idle []
   unfolding wordStep pendingOf
   dummy-taken p d = rw (eq-eqb (s .port) 0 p, d)
 
@@ -80,7 +80,7 @@ unfolding commandWord
 hole-refused w h = rw h
 
 pub no-hole-taken : (w : ℕ) → hole (commandBytes w) ≡ false
-    → commandWord w ≡ taken (afterThem false (commandsOf w)) (atOnce (commandsOf w))
+    → commandWord w ≡ accepted (afterThem false (commandsOf w)) (atOnce (commandsOf w))
 unfolding commandWord
 no-hole-taken w h = rw h
 
@@ -121,7 +121,7 @@ module _ (s : Stream) (w : ℕ) (long : length (s .held) ≡ 32) (fits : s .queu
 
   -- it was the last
   pub parameter-last : count (s .queue % 256) ≤ s .count + 1
-      → taken (afterThem false (commandsOf (s .queue / 256)))
+      → accepted (afterThem false (commandsOf (s .queue / 256)))
       (command (s .queue % 256) (take (count (s .queue % 256)) (set (s .held) (s .count) w))
       ∷ atOnce (commandsOf (s .queue / 256)))
       ≡ parameterWord (s .queue % 256) (commandsOf (s .queue / 256)) (take (s .count) (s .held) ++ w ∷ [])

@@ -11,7 +11,7 @@ use Rattle.commands.specs.Commands.{count, commandAt}
 use Rattle.commands.proofs.Table.{count-small}
 use Rattle.stream.specs.Pending.{idle, packedPending}
 use Rattle.stream.specs.Command.{takesNone, command, write}
-use Rattle.stream.specs.Step.{refused, taken, heldWith, portParameter, portStep}
+use Rattle.stream.specs.Step.{refused, accepted, heldWith, portParameter, portStep}
 use Rattle.state.specs.declared.Stream.{Stream}
 use Rattle.state.specs.Sound.{pendingOf}
 use Rattle.steps.specs.Outcome.{outcome, completed, stepOf, idleStream, LacksAt}
@@ -44,7 +44,7 @@ module _ (s : Stream) (a v : ℕ) where
 -- ---- a write that is taken
 
 pub port-outcome : (c : ℕ) (held : List ℕ) → c < 256
-    → stepOf (outcome 0 (idleStream held) c 1) ≡ taken idle (command c (take (count c) held) ∷ [])
+    → stepOf (outcome 0 (idleStream held) c 1) ≡ accepted idle (command c (take (count c) held) ∷ [])
 unfolding stepOf completed
 port-outcome c held h = let e : c % 256 ≡ c = omega arith in rw (e, idle-pending held)
 

@@ -9,7 +9,7 @@ use Rattle.words.specs.Words.{bytes}
 use Rattle.commands.specs.Commands.{known, count, commandBytes, hole}
 use Rattle.stream.specs.Pending.{Pending, commandsOf}
 use Rattle.stream.specs.Command.{Command, command}
-use Rattle.stream.specs.Step.{Step, refused, taken, atOnce}
+use Rattle.stream.specs.Step.{Step, refused, accepted, atOnce}
 use Rattle.state.specs.declared.Stream.{Stream}
 use Rattle.state.specs.Sound.{pendingOf}
 use Rattle.steps.specs.declared.Outcome.{Outcome}
@@ -27,7 +27,7 @@ unfoldable pub completed : Outcome → List Command
 completed r = commandsWith (r .stream .held) (bytes (r .completed) (r .commands))
 
 unfoldable pub stepOf : Outcome → Step
-stepOf r = cond (eqb (r .number) 0) (taken (pendingOf (r .stream)) (completed r)) (refused (r .number))
+stepOf r = cond (eqb (r .number) 0) (accepted (pendingOf (r .stream)) (completed r)) (refused (r .number))
 
 -- a stream with nothing pending; what it held stays where it was
 abbrev pub idleStream : List ℕ → Stream

@@ -5,7 +5,7 @@ use mathlib.Core.List.{List, [], _∷_, _++_}
 use mathlib.Core.Path.{_≡_, refl, ap, subst}
 use Rattle.stream.specs.Pending.{Pending, soundPending}
 use Rattle.stream.specs.Command.{Command, Complete}
-use Rattle.stream.specs.Step.{Step, refused, taken}
+use Rattle.stream.specs.Step.{Step, refused, accepted}
 use Rattle.stream.specs.Call.{Machine, Reply, machine, reply, run, afterStep, callBy}
 use Rattle.stream.specs.Demand3.{after, AllTaken, Usable}
 use Rattle.stream.proofs.StepLaws.{AllComplete, KeepsSound}
@@ -40,7 +40,7 @@ module _ {State : Type 0} (exec : Command → State → State) (Keeping : State 
       by false l x g = k
       by true false x g = k
       by true true (refused n) g = k
-      by true true (taken p cs) g = (run-keeps cs (m .state) (g .1) (k .0), g .0)
+      by true true (accepted p cs) g = (run-keeps cs (m .state) (g .1) (k .0), g .0)
 
 module _ {State : Type 0} (exec : Command → State → State) (sound longEnough : State → Bool)
     (keeps : (c : Command) (s : State) → Complete c → Usable exec sound longEnough s
@@ -50,7 +50,7 @@ module _ {State : Type 0} (exec : Command → State → State) (sound longEnough
   abbrev UsableMachine : Machine State → Type 0
   UsableMachine m = Usable exec sound longEnough (m .state) × (soundPending (m .pending) ≡ true)
 
-  taken-call : (p q : Pending) (a : A) (cs : List Command) (s : State) → step p a ≡ taken q cs
+  taken-call : (p q : Pending) (a : A) (cs : List Command) (s : State) → step p a ≡ accepted q cs
       → UsableMachine (machine s p)
       → callBy exec sound longEnough step (machine s p) a ≡ reply 0 (machine (run exec cs s) q)
   unfolding callBy
@@ -64,9 +64,10 @@ module _ {State : Type 0} (exec : Command → State → State) (sound longEnough
       → UsableMachine (machine s p) → Simulated p l cs u s
   simulated none s f = record { all-taken = tt; end = refl }
   simulated (one {s = p} {t = q} {a = a} {cs = cs} {ds = ds} e r) s f =
-      let g : KeepsSound (taken q cs) = subst KeepsSound e (step-keeps p a (f .1)) in
+      let g : KeepsSound (accepted q cs) = subst KeepsSound e (step-keeps p a (f .1)) in
       let c = taken-call p q a cs s e f in
-      let rest = simulated r (run exec cs s) (run-keeps exec (Usable exec sound longEnough) keeps cs s (g .1) (f .0), g .0) in
+      let usable = run-keeps exec (Usable exec sound longEnough) keeps cs s (g .1) (f .0) in
+      let rest = simulated r (run exec cs s) (usable, g .0) in
       record {
         all-taken = (ap (λ (x : Reply State). x .number) c, rw c (rest .all-taken));
         end = rw (c, run-append exec cs ds s) (rest .end);

@@ -69,10 +69,10 @@ commands-accepted capacity cs =
       short = ltb-false 8192 (length (packedWords cs)) q;
     }
 
-accepted : (capacity : ℕ) (log : List ℕ) → pack capacity log .number ≡ 0
+pack-accepted : (capacity : ℕ) (log : List ℕ) → pack capacity log .number ≡ 0
     → Accepted (logCommands (writes log)) (pack capacity log)
 unfolding pack logCommands
-accepted capacity log =
+pack-accepted capacity log =
     by (isOdd (length log) || ltb 8192 (length log)) (logCommands (writes log))
     (λ n p. stopped-number portStep port-keeps (writes log) 0 0 idle n p idle-sound)
   where
@@ -99,7 +99,7 @@ module _ {State : Type 0} (exec : Command → State → State) (sound longEnough
   from-idle : (capacity : ℕ) (log : List ℕ) (s : State) → pack capacity log .number ≡ 0
       → Usable exec sound longEnough s → Demand3 exec sound longEnough capacity log (machine s idle)
   from-idle capacity log s a f =
-      let p = accepted capacity log a in
+      let p = pack-accepted capacity log a in
       let r = log-read (writes log) (p .cs) (p .read) in
       let w = read-words (Moves wordStep) word-moves (p .cs) (r .all-complete) in
       let by-ports = simulated exec sound longEnough keeps portStep port-keeps (r .reads) s (f, idle-sound) in
@@ -134,7 +134,7 @@ pub demand2 : (capacity back : ℕ) (log : List ℕ) → pack capacity log .numb
     ≡ record { number = 0; place = 0; words = logOf (zeroed (writes log)) }
 unfolding unpack listCommands
 demand2 capacity back log a h =
-    let p = accepted capacity log a in
+    let p = pack-accepted capacity log a in
     let r = log-read (writes log) (p .cs) (p .read) in
     let w = read-words (Moves wordStep) word-moves (p .cs) (r .all-complete) in
     let fits : length (logOf (allWrites (p .cs))) ≤ back =

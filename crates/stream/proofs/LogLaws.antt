@@ -12,7 +12,7 @@ use Rattle.commands.specs.Commands.{known, count, port, commandAt}
 use Rattle.commands.proofs.Commands.{command-at-port, PortOf, port-of-command}
 use Rattle.stream.specs.Pending.{Pending, idle, portPending, isEmpty, packedPending, isPending, soundPending}
 use Rattle.stream.specs.Command.{takesNone, Command, command, Complete, Write, write}
-use Rattle.stream.specs.Step.{Step, refused, taken, heldWith, portParameter, portStep}
+use Rattle.stream.specs.Step.{Step, refused, accepted, heldWith, portParameter, portStep}
 use Rattle.stream.specs.Read.{commands, logCommands}
 use Rattle.stream.specs.Pack.{groups, parametersOf, endsWithNone, dummyIf, groupWords, allWords, packedWords}
 use Rattle.stream.specs.Pack.{countIf, parameterWrites}
@@ -39,7 +39,7 @@ writes-snoc a (x ∷ h) v l = ap (λ (k : List Write). write a x ∷ k) (writes-
 -- commands that are complete
 WritesKept : Pending → Write → Step → Type 0
 WritesKept s w (refused n) = Unit {0}
-WritesKept s w (taken t cs) =
+WritesKept s w (accepted t cs) =
     (packedPending t ≡ false)
     × ((l : List Write) (ds : List Command) → heldWrites t ++ l ≡ allWrites ds
     → heldWrites s ++ (zeroedWrite w ∷ l) ≡ allWrites (cs ++ ds))
@@ -62,15 +62,15 @@ module _ (s : Pending) (w : Write) (c : ℕ) (e : commandAt (w .address) ≡ c) 
 
   parameter-kept : takesNone c ≡ false → (t : Bool)
       → WritesKept s w
-      (cond t (taken (portPending c (s .held ++ w .value ∷ [])) [])
-      (taken idle (command c (s .held ++ w .value ∷ []) ∷ [])))
+      (cond t (accepted (portPending c (s .held ++ w .value ∷ [])) [])
+      (accepted idle (command c (s .held ++ w .value ∷ []) ∷ [])))
   unfolding WritesKept heldWrites commandWrites
   parameter-kept n true = (refl, λ l ds q. held-more n l ∙ q)
   parameter-kept n false =
       let k : List ℕ = s .held ++ w .value ∷ [] in
       (refl, λ l ds q. held-more n l ∙ rw n (ap (λ (r : List Write). writesTo (port c) k ++ r) q))
 
-  none-kept : takesNone c ≡ true → s .held ≡ [] → WritesKept s w (taken idle (command c [] ∷ []))
+  none-kept : takesNone c ≡ true → s .held ≡ [] → WritesKept s w (accepted idle (command c [] ∷ []))
   unfolding WritesKept heldWrites commandWrites
   none-kept n h = (refl, λ l ds q. held-none n h l ∙ rw n (ap (λ (k : List Write). write (port c) 0 ∷ k) q))
 
@@ -84,7 +84,7 @@ module _ (s : Pending) (w : Write) (c : ℕ) (e : commandAt (w .address) ≡ c) 
 
       by : (t : Bool) → takesNone c ≡ t
           → WritesKept s w
-          (cond (ltb (length (k t)) (count c)) (taken (portPending c (k t)) []) (taken idle (command c (k t) ∷ [])))
+          (cond (ltb (length (k t)) (count c)) (accepted (portPending c (k t)) []) (accepted idle (command c (k t) ∷ [])))
       by true n = rw (takes-none-count c n) (none-kept n (empty n))
       by false n = parameter-kept n (ltb (length (s .held ++ w .value ∷ [])) (count c))
 
@@ -127,8 +127,8 @@ writes-behind : {s u : Pending} {l : List Write} {cs : List Command} → Reads (
 unfolding WritesKept heldWrites
 writes-behind (none {s = s}) e b f = rw (sound-idle s e f)
 writes-behind (one {s = s} {t = t} {a = w} {l = l} {cs = cs} {ds = ds} p r) e b f =
-    let g : KeepsSound (taken t cs) = subst KeepsSound p (port-keeps s w e) in
-    let k : WritesKept s w (taken t cs) = subst (WritesKept s w) p (port-kept s w e b) in
+    let g : KeepsSound (accepted t cs) = subst KeepsSound p (port-keeps s w e) in
+    let k : WritesKept s w (accepted t cs) = subst (WritesKept s w) p (port-kept s w e b) in
     k .1 (zeroed l) ds (writes-behind r (g .0) (k .0) f)
 
 -- the log is the writes of its commands
@@ -283,21 +283,21 @@ unfolding portStep
 port-write p c h v k e = rw (command-at-port c k, known-not-zero c k, e)
 
 write-held : (p c : ℕ) (h : List ℕ) (v : ℕ) → known c ≡ true → MayWrite p c → length h + 1 < count c
-    → portStep (portPending p h) (write (port c) v) ≡ taken (portPending c (h ++ v ∷ [])) []
+    → portStep (portPending p h) (write (port c) v) ≡ accepted (portPending c (h ++ v ∷ [])) []
 unfolding portParameter heldWith
 write-held p c h v k e m =
     let few = lt-ltb (length (h ++ v ∷ [])) (count c) (omega (arith, length-snoc h v)) in
     port-write p c h v k e ∙ rw (count-takes-some c (omega arith), few)
 
 last-write : (p c : ℕ) (h : List ℕ) (v : ℕ) → known c ≡ true → MayWrite p c → length h + 1 ≡ count c
-    → portStep (portPending p h) (write (port c) v) ≡ taken idle (command c (h ++ v ∷ []) ∷ [])
+    → portStep (portPending p h) (write (port c) v) ≡ accepted idle (command c (h ++ v ∷ []) ∷ [])
 unfolding portParameter heldWith
 last-write p c h v k e m =
     let all = le-ltb (length (h ++ v ∷ [])) (count c) (omega (arith, length-snoc h v)) in
     port-write p c h v k e ∙ rw (count-takes-some c (omega arith), all)
 
 only-write : (c : ℕ) (v : ℕ) → known c ≡ true → takesNone c ≡ true
-    → portStep idle (write (port c) v) ≡ taken idle (command c [] ∷ [])
+    → portStep idle (write (port c) v) ≡ accepted idle (command c [] ∷ [])
 unfolding portParameter heldWith
 only-write c v k n = port-write 0 c [] v k refl ∙ rw (n, takes-none-count c n)
 

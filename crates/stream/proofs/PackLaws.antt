@@ -12,7 +12,7 @@ use Rattle.commands.proofs.Table.{known-range}
 use Rattle.commands.proofs.Commands.{counted-known, counted-unknown}
 use Rattle.stream.specs.Pending.{Pending, idle, dummyDue, queued, upToLast, commandsOf, allKnown}
 use Rattle.stream.specs.Command.{takesNone, Command, command}
-use Rattle.stream.specs.Step.{taken, atOnce, afterThem, commandWord, parameterWord, wordStep}
+use Rattle.stream.specs.Step.{accepted, atOnce, afterThem, commandWord, parameterWord, wordStep}
 use Rattle.stream.specs.Pack.{groups, queueOf, parametersOf, endsWithNone, dummyIf, groupWords, allWords}
 use Rattle.stream.specs.Pack.{packedWords, countIf, groupsWithDummy}
 use Rattle.stream.proofs.PendingLaws.{unknown-zero, known-not-zero, hole-above}
@@ -74,7 +74,7 @@ length-queue (c ∷ g) = ap suc (length-queue g)
 -- ---- what a step does with a packed word
 
 command-word-read : (g : List Command) → AllComplete g → length g ≤ 4
-    → wordStep idle (wordOf (queueOf g)) ≡ taken (afterThem false (queueOf g)) (atOnce (queueOf g))
+    → wordStep idle (wordOf (queueOf g)) ≡ accepted (afterThem false (queueOf g)) (atOnce (queueOf g))
 unfolding wordStep commandWord
 command-word-read g w m =
     let f = queue-word (queueOf g) (omega (arith, length-queue g)) (queue-known g w) in
@@ -82,12 +82,12 @@ command-word-read g w m =
 
 -- a parameter of the first queued command: it is held, or it is the last one
 parameter-read : (c : ℕ) (q h : List ℕ) (p : ℕ) → length h + 1 < count c
-    → wordStep (queued (c ∷ q) h) p ≡ taken (queued (c ∷ q) (h ++ p ∷ [])) []
+    → wordStep (queued (c ∷ q) h) p ≡ accepted (queued (c ∷ q) (h ++ p ∷ [])) []
 unfolding wordStep parameterWord
 parameter-read c q h p m = rw (lt-ltb (length (h ++ p ∷ [])) (count c) (omega (arith, length-snoc h p)))
 
 last-parameter-read : (c : ℕ) (q h : List ℕ) (p : ℕ) → length h + 1 ≡ count c
-    → wordStep (queued (c ∷ q) h) p ≡ taken (afterThem false q) (command c (h ++ p ∷ []) ∷ atOnce q)
+    → wordStep (queued (c ∷ q) h) p ≡ accepted (afterThem false q) (command c (h ++ p ∷ []) ∷ atOnce q)
 unfolding wordStep parameterWord
 last-parameter-read c q h p m = rw (le-ltb (length (h ++ p ∷ [])) (count c) (omega (arith, length-snoc h p)))
 

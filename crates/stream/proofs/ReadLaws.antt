@@ -7,7 +7,7 @@ use Prim.Native.Nat.{ℕ, suc, _≤_}
 use native.Mathlib.Omega.{arith}
 use Rattle.stream.specs.Pending.{Pending, isPending, soundPending}
 use Rattle.stream.specs.Command.{Command}
-use Rattle.stream.specs.Step.{Step, refused, taken, caseStep}
+use Rattle.stream.specs.Step.{Step, refused, accepted, caseStep}
 use Rattle.stream.specs.Read.{Read, stopped, commands, prepend, scan}
 use Rattle.stream.proofs.StepLaws.{AllComplete, complete-append, KeepsSound}
 
@@ -20,7 +20,7 @@ pub data Reads {A : Type 0} (R : Pending → A → Pending → List Command → 
 
 -- the relation of a step: its equation
 abbrev pub Moves : {A : Type 0} → (Pending → A → Step) → Pending → A → Pending → List Command → Type 0
-Moves step s a t cs = step s a ≡ taken t cs
+Moves step s a t cs = step s a ≡ accepted t cs
 
 module _ {A : Type 0} (R : Pending → A → Pending → List Command → Type 0) where
   -- one item
@@ -68,7 +68,7 @@ module _ {A : Type 0} (step : Pending → A → Step) where
   scan-reads (a ∷ l) cs i b s =
       by (step s a) refl (λ t ds. scan-reads l ds (suc i) (cond (isPending s) b i) t)
     where
-      read : (t : Pending) (ds : List Command) (r : Read) → step s a ≡ taken t ds → prepend ds r ≡ commands cs
+      read : (t : Pending) (ds : List Command) (r : Read) → step s a ≡ accepted t ds → prepend ds r ≡ commands cs
           → ((es : List Command) → r ≡ commands es → Scanned t l es) → Scanned s (a ∷ l) cs
       read t ds (stopped n p) q e rest = stopped-not e
       read t ds (commands es) q e rest =
@@ -87,7 +87,7 @@ module _ {A : Type 0} (step : Pending → A → Step) where
           ≡ commands cs
           → Scanned s (a ∷ l) cs
       by (refused n) q rest e = stopped-not e
-      by (taken t ds) q rest e = read t ds (scan step l (suc i) (cond (isPending s) b i) t) q e (rest t)
+      by (accepted t ds) q rest e = read t ds (scan step l (suc i) (cond (isPending s) b i) t) q e (rest t)
 
 -- ---- what a step that keeps what is pending sound gives
 
@@ -97,7 +97,7 @@ module _ {A : Type 0} (step : Pending → A → Step)
       → soundPending s ≡ true → AllComplete cs × (soundPending u ≡ true)
   reads-complete none h = (tt, h)
   reads-complete (one {s = s} {t = t} {a = a} {cs = cs} {ds = ds} p r) h =
-      let g : KeepsSound (taken t cs) = subst KeepsSound p (step-keeps s a h) in
+      let g : KeepsSound (accepted t cs) = subst KeepsSound p (step-keeps s a h) in
       let k = reads-complete r (g .0) in
       (complete-append cs ds (g .1) (k .0), k .1)
 
@@ -123,4 +123,4 @@ module _ {A : Type 0} (step : Pending → A → Step)
           ≡ stopped n p
           → 1 ≤ n
       by (refused m) g rest e = let z : m ≡ n = cc in omega arith
-      by (taken t ds) g rest e = read ds (scan step l (suc i) (cond (isPending s) b i) t) e (rest t (g .0))
+      by (accepted t ds) g rest e = read ds (scan step l (suc i) (cond (isPending s) b i) t) e (rest t (g .0))

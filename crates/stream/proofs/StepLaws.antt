@@ -13,7 +13,7 @@ use Rattle.commands.proofs.Commands.{length-commandBytes, port-of-command}
 use Rattle.stream.specs.Pending.{Pending, idle, queued, portPending, commandsOf, isEmpty, isPending, allKnown}
 use Rattle.stream.specs.Pending.{soundPending}
 use Rattle.stream.specs.Command.{takesNone, Command, command, Complete, Write}
-use Rattle.stream.specs.Step.{Step, refused, taken, atOnce, afterThem, commandWord, parameterWord, packedStep}
+use Rattle.stream.specs.Step.{Step, refused, accepted, atOnce, afterThem, commandWord, parameterWord, packedStep}
 use Rattle.stream.specs.Step.{wordStep, heldWith, portParameter, portStep}
 use Rattle.stream.proofs.PendingLaws.{bytes-counted, up-to-last-short, all-known}
 use Rattle.stream.proofs.CommandLaws.{never, takes-none-count, takes-some-count}
@@ -100,7 +100,7 @@ complete-append (c ∷ cs) ds w v = (w .0, complete-append cs ds (w .1) v)
 -- a step that leaves something sound pending, completes complete commands, and refuses with a number that is not 0
 abbrev pub KeepsSound : Step → Type 0
 KeepsSound (refused n) = 1 ≤ n
-KeepsSound (taken s cs) = (soundPending s ≡ true) × AllComplete cs
+KeepsSound (accepted s cs) = (soundPending s ≡ true) × AllComplete cs
 
 pub length-snoc : (h : List ℕ) (v : ℕ) → length (h ++ v ∷ []) ≡ suc (length h)
 length-snoc h v = omega (arith, length-append h (v ∷ []))
@@ -145,7 +145,7 @@ unfolding commandWord
 command-word-keeps w = by (hole (commandBytes w)) refl
   where
     by : (t : Bool) → hole (commandBytes w) ≡ t
-        → KeepsSound (cond t (refused 3) (taken (afterThem false (commandsOf w)) (atOnce (commandsOf w))))
+        → KeepsSound (cond t (refused 3) (accepted (afterThem false (commandsOf w)) (atOnce (commandsOf w))))
     by true e = omega arith
     by false e =
         let k = commands-known w e in
@@ -157,8 +157,8 @@ unfolding parameterWord
 parameter-word-keeps c q h w s = by (ltb (length (h ++ w ∷ [])) (count c)) refl
   where
     by : (t : Bool) → ltb (length (h ++ w ∷ [])) (count c) ≡ t
-        → KeepsSound (cond t (taken (queued (c ∷ q) (h ++ w ∷ [])) [])
-        (taken (afterThem false q) (command c (h ++ w ∷ []) ∷ atOnce q)))
+        → KeepsSound (cond t (accepted (queued (c ∷ q) (h ++ w ∷ [])) [])
+        (accepted (afterThem false q) (command c (h ++ w ∷ []) ∷ atOnce q)))
     by true e =
         let few = ltb-true (length (h ++ w ∷ [])) (count c) e in
         let more : SoundQueue c q (h ++ w ∷ []) =
@@ -189,7 +189,7 @@ unfolding portParameter
 port-parameter-keeps c h k m = by (ltb (length h) (count c)) refl
   where
     by : (t : Bool) → ltb (length h) (count c) ≡ t
-        → KeepsSound (cond t (taken (portPending c h) []) (taken idle (command c h ∷ [])))
+        → KeepsSound (cond t (accepted (portPending c h) []) (accepted idle (command c h ∷ [])))
     by true e = (port-sound c h (known-range c k .0) (ltb-true (length h) (count c) e), tt)
     by false e =
         let n : length h ≡ count c = omega (arith, ltb-false (length h) (count c) e) in

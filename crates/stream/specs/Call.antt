@@ -6,7 +6,7 @@ use mathlib.Core.List.{List, [], _∷_}
 use Prim.Native.Nat.{ℕ}
 use Rattle.stream.specs.Pending.{Pending, soundPending}
 use Rattle.stream.specs.Command.{Command, Write}
-use Rattle.stream.specs.Step.{Step, refused, taken, wordStep, portStep}
+use Rattle.stream.specs.Step.{Step, refused, accepted, wordStep, portStep}
 
 -- an engine with its buffers, and what is pending in its stream
 pub record Machine (State : Type 0) : Type 0 where
@@ -36,7 +36,7 @@ module _ {State : Type 0} (exec : Command → State → State) where
   -- "A refused call changes nothing"; of a step that is taken the completed commands run
   abbrev pub afterStep : Machine State → Step → Reply State
   afterStep m (refused n) = reply n m
-  afterStep m (taken p cs) = reply 0 (machine (run cs (m .state)) p)
+  afterStep m (accepted p cs) = reply 0 (machine (run cs (m .state)) p)
 
 module _ {State : Type 0} (exec : Command → State → State) (sound longEnough : State → Bool) where
   -- 1, 2, and then the step's own numbers

@@ -10,15 +10,15 @@ use Rattle.commands.specs.Commands.{count, commandAt, commandBytes, hole}
 use Rattle.stream.specs.Pending.{Pending, idle, dummyDue, queued, portPending, commandsOf, packedPending}
 use Rattle.stream.specs.Command.{takesNone, Command, command, Write}
 
--- refused with a number; or taken: what is pending then, and the commands that are complete, in the order in which they
+-- refused with a number; or accepted: what is pending then, and the commands that are complete, in the order in which they
 -- run
 pub data Step : Type 0 where
   refused : ℕ → Step
-  taken : Pending → List Command → Step
+  accepted : Pending → List Command → Step
 
 abbrev pub caseStep : {R : Type 0} → Step → (ℕ → R) → (Pending → List Command → R) → R
 caseStep (refused n) f g = f n
-caseStep (taken s cs) f g = g s cs
+caseStep (accepted s cs) f g = g s cs
 
 -- ---- packed words
 
@@ -39,16 +39,16 @@ afterThem b (c ∷ q) = cond (takesNone c) (afterThem true q) (queued (c ∷ q) 
 unfoldable pub commandWord : ℕ → Step
 commandWord w =
     let q : List ℕ = commandsOf w in
-    cond (hole (commandBytes w)) (refused 3) (taken (afterThem false q) (atOnce q))
+    cond (hole (commandBytes w)) (refused 3) (accepted (afterThem false q) (atOnce q))
 
 -- a parameter of the first command c of a queue c ∷ q, which makes its parameters h
 unfoldable pub parameterWord : ℕ → List ℕ → List ℕ → Step
 parameterWord c q h =
-    cond (ltb (length h) (count c)) (taken (queued (c ∷ q) h) []) (taken (afterThem false q) (command c h ∷ atOnce q))
+    cond (ltb (length h) (count c)) (accepted (queued (c ∷ q) h) []) (accepted (afterThem false q) (command c h ∷ atOnce q))
 
 -- the dummy, "any dummy is taken"; a command word, where none is queued; else a parameter
 abbrev pub packedStep : Bool → List ℕ → List ℕ → ℕ → Step
-packedStep true q h w = taken idle []
+packedStep true q h w = accepted idle []
 packedStep false [] h w = commandWord w
 packedStep false (c ∷ q) h w = parameterWord c q (h ++ w ∷ [])
 
@@ -64,7 +64,7 @@ heldWith c h v = cond (takesNone c) [] (h ++ v ∷ [])
 
 -- "It runs when the last parameter is written; a port without parameters runs at any write."
 unfoldable pub portParameter : ℕ → List ℕ → Step
-portParameter c h = cond (ltb (length h) (count c)) (taken (portPending c h) []) (taken idle (command c h ∷ []))
+portParameter c h = cond (ltb (length h) (count c)) (accepted (portPending c h) []) (accepted idle (command c h ∷ []))
 
 -- 5: "address is no known command's port"; 4: "port write with a packed word unfinished"; 6: "another port than the one
 -- begun"; in this order

@@ -1,14 +1,17 @@
 -- `engine::port_write` meets its contract. Assumes nothing.
-use mathlib.Core.Path.{sym, ap, _∙_}
+use mathlib.Core.Path.{_≡_, sym, ap, _∙_}
+use mathlib.Core.Bool.{true}
 use Prim.Native.Nat.{ℕ}
 use lib.ListN.{length}
 use borrow.Author.Needs.{needs}
+use Rattle.state.specs.Sound.{sound}
+use Rattle.polygons.specs.Buffers.{longEnough}
 use Rattle.stream.specs.Command.{write}
 use Rattle.stream.specs.Step.{portStep}
 use Rattle.stream.specs.Call.{reply, afterStep}
 use Rattle.state.specs.declared.Answer.{Answer}
 use Rattle.engine.specs.Call.{exec, machineOf, replyOf}
-use Rattle.engine.proofs.Calls.{Usable, usable, sound-core, sound-stream, refused-first, by-step, given-back}
+use Rattle.engine.proofs.Calls.{neither-falls, sound-core, sound-stream, refused-first, by-step, given-back}
 use Rattle.engine.proofs.port_write.Statement.{statement}
 use Rattle.engine.proofs.port_write.Tie as tie
 
@@ -34,23 +37,25 @@ returns c =
       given-back (a .e) _ _ (c .answered .ensures),
     )
 
-usable-at : (c : tie.Else1) → let a = c .before .before .before .before .before .args in
-    Usable (a .e) (length (a .vertices .now)) (length (a .polygons .now))
-usable-at c = usable _ _ _ (sym (c .before .first-number .ensures) ∙ c .if1 .left)
+-- numbers 1 and 2 do not fall
+none-first : (c : tie.Else1) → let a = c .before .before .before .before .before .args in
+    let rooms = a .e .core .registers .geometry .rooms in
+    (sound (a .e) ≡ true) × (longEnough rooms (length (a .vertices .now)) (length (a .polygons .now)) ≡ true)
+none-first c = neither-falls _ _ _ (sym (c .before .first-number .ensures) ∙ c .if1 .left)
 
 port-step-requires : tie.Need-port-step-requires
 port-step-requires c κs = (
   search needs,
   sound-stream
-      (c .before .before .before .before .before .before .before .args .e) (usable-at (c .before .before) .is-sound),
+      (c .before .before .before .before .before .before .before .args .e) (none-first (c .before .before) .0),
 )
 
 after-step-requires : tie.Need-after-step-requires
 after-step-requires c κs =
-    let u = usable-at (c .before .before .before .before .before) in (
+    let u = none-first (c .before .before .before .before .before) in (
       sound-core (c .before .before .before .before .before .before .before .before .before .before .args .e)
-          (u .is-sound),
-      u .is-long,
+          (u .0),
+      u .1,
     )
 
 same-length : tie.Need-same-length
@@ -67,9 +72,11 @@ returns-2 c =
     let p = a .polygons .now in
     let done = c .before .before .before .after-step in (
       done .ensures .0
-          ∙ ap (afterStep exec (machineOf (a .e) v p)) (c .before .before .before .before .before .before .port-step .ensures)
+          ∙ ap (afterStep exec (machineOf (a .e) v p)) (c .before .before .before .before .before .before .port-step
+          .ensures)
           ∙ sym (by-step portStep (a .e) v p (write (a .address) (a .value))
-          (sym (c .before .before .before .before .before .before .before .before .before .before .first-number .ensures) ∙
+          (sym
+          (c .before .before .before .before .before .before .before .before .before .before .first-number .ensures) ∙
           c .before .before .before .before .before .before .before .before .before .if1 .left)),
       done .ensures .1,
     )
