@@ -8,25 +8,30 @@ use lib.IntN.{ℤ, pos, negsuc}
 use lib.ListN.{set, replicate}
 use Rattle.lowbits.specs.Bits.{floorBits, lowBits, asSigned}
 use Rattle.commands.specs.declared.Count.the-variants.{Takes, Unknown}
-use Rattle.commands.specs.Commands.{commandRows, lookup, known, count, counted, commandBytes}
+use Rattle.commands.specs.Commands.{commandRows, lookup, known, count, port, counted, commandAt, commandBytes, hole}
 use Rattle.matrix.specs.Matrix.{entry, rowBy, mul, unit, scaleMatrix, at, one}
-use Rattle.stream.specs.Pending.{commandsOf, soundPending}
+use Rattle.stream.specs.Pending.{idle, dummyDue, queued, commandsOf, soundPending}
+use Rattle.stream.specs.Command.{takesNone, write}
+use Rattle.stream.specs.Step.{commandWord, parameterWord, wordStep, heldWith, portParameter, portStep}
+use Rattle.stream.specs.Call.{Machine, Reply, machine, reply, callBy}
+use Rattle.stream.specs.Demand3.{after}
 use Rattle.state.specs.declared.OpenList.the-variants.{TriangleStrip}
 use Rattle.state.specs.declared.Geometry.{Geometry}
 use Rattle.state.specs.declared.Core.{Core}
 use Rattle.state.specs.declared.Stream.{Stream}
 use Rattle.state.specs.With.{withPair, withPosition, withRooms}
 use Rattle.state.specs.Fresh.{zeros, freshTransform, vertexWidth, freshGeometry, fresh, start}
-use Rattle.state.specs.Sound.{pendingOf, soundStream}
+use Rattle.state.specs.Sound.{soundTransform, coloured, soundWaiting, soundGeometry, soundCore, pendingOf, soundStream}
 use Rattle.stacks.specs.declared.Matrices.{Matrices}
 use Rattle.stacks.specs.declared.StackCommand.the-variants.{Push, Pop, Store}
 use Rattle.stacks.specs.Matrices.{putTransform, failed}
 use Rattle.stacks.specs.Slot.{slotAt}
 use Rattle.stacks.specs.Stack.{level, target, stored, loaded, pushPair, popPair, storePair, runStack}
 use Rattle.transforms.specs.declared.MatrixCommand.the-variants.{Mode}
+use Rattle.transforms.specs.Act.{onPair, act}
 use Rattle.transforms.specs.Command.{runMatrix}
 use Rattle.positions.specs.Position.{coordinates, positionAfter}
-use Rattle.polygons.specs.Buffers.{Buffered, buffered, polygonWidth, withVertex, withPolygon}
+use Rattle.polygons.specs.Buffers.{Buffered, buffered, polygonWidth, longEnough, withVertex, withPolygon}
 use Rattle.polygons.specs.Records.{vertexRecord}
 use Rattle.polygons.specs.Store.{storePolygon}
 use Rattle.geometry.specs.List.{beginList, swapBuffers}
@@ -34,6 +39,7 @@ use Rattle.geometry.specs.Vertex.{joined, assembled, remaining, taken, vertexAt
 use Rattle.geometry.specs.Command.{runGeometry}
 use Rattle.execute.specs.Operation.{carried, registerCommandOf, operationOf}
 use Rattle.execute.specs.Execute.{runRegisters, runOperation, execute}
+use Rattle.engine.specs.Call.{wordReply, portReply}
 
 pub record WorkedRow : Type 1 where
   pub Kind : Type 0
@@ -85,6 +91,22 @@ startWith vertices polygons =
     buffered (start vertices polygons .engine .core) (replicate (vertexWidth * vertices) (negsuc 0))
     (replicate (polygonWidth * polygons) 9)
 
+-- the same with this stream
+abbrev startWhere : ℕ → ℕ → Stream → Machine (Buffered Core)
+startWhere vertices polygons s = machine (startWith vertices polygons) (pendingOf s)
+
+-- rooms 1 and 1, nothing pending
+abbrev atStart : Machine (Buffered Core)
+atStart = machine (startWith 1 1) idle
+
+-- what answers a word after others
+abbrev afterWords : List ℕ → ℕ → Reply (Buffered Core)
+afterWords ws w = wordReply (after wordReply atStart ws) w
+
+-- the same with buffers of no numbers
+abbrev noBuffers : Machine (Buffered Core) → Machine (Buffered Core)
+noBuffers m = machine (buffered (m .state .part) [] []) (m .pending)
+
 -- commands one after another, each a byte and its parameters
 abbrev runs : List (ℕ × List ℕ) → Buffered Core → Buffered Core
 runs [] s = s
@@ -125,6 +147,46 @@ commandTableRows =
     row (map lookup (0x34 ∷ 0x73 ∷ 0x9f ∷ 0xff ∷ [])) (Takes 32 ∷ Unknown ∷ Unknown ∷ Unknown ∷ [])
     -- of that table: "These 37 are known."
     ∷ row (knownBelow 256) 37
+    ∷ []
+
+abbrev pub callRows : List WorkedRow
+callRows =
+    -- 2: word 00110015h refused 3; 00001099h refused 3; 99000010h taken as 10h alone
+    row (wordReply atStart 0x0011_0015) (reply 3 atStart)
+    ∷ row (wordReply atStart 0x0000_1099) (reply 3 atStart)
+    ∷ row (wordReply atStart 0x9900_0010) (reply 0 (machine (startWith 1 1) (queued (0x10 ∷ []) [])))
+    -- of "A word of four 0s is taken and does nothing", and of four bytes that are no commands
+    ∷ row (wordReply atStart 0) (reply 0 atStart)
+    ∷ row (wordReply atStart 0x9f73_ffab) (reply 0 atStart)
+    -- of "A command runs with the word that completes it": 10h and 15h in one word, then mode 2, then any dummy
+    ∷ row (afterWords (0x1510 ∷ []) 2)
+    (reply 0 (machine (runs ((0x10, 2 ∷ []) ∷ (0x15, []) ∷ []) (startWith 1 1)) (dummyDue true)))
+    ∷ row (afterWords (0x1510 ∷ 2 ∷ []) 77)
+    (reply 0 (machine (runs ((0x10, 2 ∷ []) ∷ (0x15, []) ∷ []) (startWith 1 1)) idle))
+    -- and of 11h first: it runs with the command word
+    ∷ row (wordReply atStart 0x1011)
+    (reply 0 (machine (runs ((0x11, []) ∷ []) (startWith 1 1)) (queued (0x10 ∷ []) [])))
+    -- of the ports: 10h's, 15h's at any value, no command's, another than the one begun
+    ∷ row (portReply atStart (write 0x0400_0440 2))
+    (reply 0 (machine (runs ((0x10, 2 ∷ []) ∷ []) (startWith 1 1)) idle))
+    ∷ row (portReply atStart (write 0x0400_0454 7))
+    (reply 0 (machine (runs ((0x15, []) ∷ []) (startWith 1 1)) idle))
+    ∷ row (portReply atStart (write 0x0400_0400 2)) (reply 5 atStart)
+    ∷ row (portReply (startWhere 1 1 (streamOf 0 1 false 0x23)) (write 0x0400_0440 2))
+    (reply 6 (startWhere 1 1 (streamOf 0 1 false 0x23)))
+    -- of the order of a word's numbers: 1, 2, 4, 3 on a record that earns them all; 3 only where a command word is due
+    ∷ row (map (λ (m : Machine (Buffered Core)). wordReply m 0x0011_0015 .number)
+    (noBuffers (startWhere 1 1 (streamOf 0 2 false 0x23)) ∷ noBuffers (startWhere 1 1 (streamOf 0 1 false 0x23))
+    ∷ startWhere 1 1 (streamOf 0 1 false 0x23) ∷ atStart ∷ startWhere 1 1 (streamOf 0x10 0 false 0) ∷ []))
+    (1 ∷ 2 ∷ 4 ∷ 3 ∷ 0 ∷ [])
+    -- of the order of a port write's: 1, 2, 5, 4 with a packed word unfinished
+    ∷ row (map (λ (m : Machine (Buffered Core)). portReply m (write 0x0400_0400 2) .number)
+    (noBuffers (startWhere 1 1 (streamOf 0x10 1 false 0)) ∷ noBuffers (startWhere 1 1 (streamOf 0x10 0 false 0))
+    ∷ startWhere 1 1 (streamOf 0x10 0 false 0) ∷ []))
+    (1 ∷ 2 ∷ 5 ∷ [])
+    ∷ row (map (λ (m : Machine (Buffered Core)). portReply m (write 0x0400_0440 2) .number)
+    (startWhere 1 1 (streamOf 0x10 0 false 0) ∷ startWhere 1 1 (streamOf 0 0 true 0) ∷ []))
+    (4 ∷ 4 ∷ [])
     ∷ []
 
 abbrev pub matrixRows : List WorkedRow
@@ -219,13 +281,21 @@ soundRows =
     ∷ []
 
 abbrev pub workedRows : List WorkedRow
-workedRows = commandTableRows ++ matrixRows ++ stackRows ++ geometryRows ++ soundRows
+workedRows = commandTableRows ++ callRows ++ matrixRows ++ stackRows ++ geometryRows ++ soundRows
 
 -- ---- its claim
 
 command-table : AllHold commandTableRows
 unfolding commandRows lookup known
 command-table = (refl, (refl, tt))
+
+calls : AllHold callRows
+unfolding commandRows lookup known count port counted commandAt commandBytes hole
+    commandsOf soundPending takesNone commandWord parameterWord wordStep heldWith portParameter portStep callBy
+    lowBits asSigned unit freshTransform freshGeometry fresh withRooms start soundTransform coloured soundWaiting
+    soundGeometry soundCore pendingOf longEnough stored pushPair runStack onPair act runMatrix
+    registerCommandOf operationOf runRegisters runOperation execute
+calls = (refl, (refl, (refl, (refl, (refl, (refl, (refl, (refl, (refl, (refl, (refl, (refl, (refl, (refl, (refl, tt)))))))))))))))
 
 matrices : AllHold matrixRows
 unfolding floorBits lowBits asSigned entry rowBy mul unit scaleMatrix
@@ -275,8 +345,10 @@ join (x ∷ xs) ys a b = (a .0, join xs ys (a .1) b)
 
 pub worked : AllHold workedRows
 worked =
-    join (commandTableRows ++ matrixRows ++ stackRows ++ geometryRows) soundRows
-    (join (commandTableRows ++ matrixRows ++ stackRows) geometryRows
-    (join (commandTableRows ++ matrixRows) stackRows (join commandTableRows matrixRows command-table matrices) stacks)
+    join (commandTableRows ++ callRows ++ matrixRows ++ stackRows ++ geometryRows) soundRows
+    (join (commandTableRows ++ callRows ++ matrixRows ++ stackRows) geometryRows
+    (join (commandTableRows ++ callRows ++ matrixRows) stackRows
+    (join (commandTableRows ++ callRows) matrixRows (join commandTableRows callRows command-table calls) matrices)
+    stacks)
     geometries)
     sounds

@@ -11,12 +11,11 @@ use borrow.Author.Tests.{eqb-true, ne-eqb}
 use Rattle.words.specs.Words.{bytes}
 use Rattle.commands.specs.Commands.{known, count, commandBytes, hole}
 use Rattle.words.proofs.Words.{length-bytes}
-use Rattle.commands.proofs.Commands.{length-commandBytes}
 use Rattle.commands.proofs.Table.{known-range}
 use Rattle.stream.specs.Pending.{commandsOf}
 use Rattle.stream.specs.Command.{takesNone, Command, command}
 use Rattle.stream.specs.Step.{atOnce, afterThem}
-use Rattle.stream.proofs.PendingLaws.{up-to-last-short}
+use Rattle.stream.proofs.StepLaws.{commands-few}
 use Rattle.stream.proofs.QueueLaws.{commands-next, hole-next, commands-none}
 use Rattle.steps.specs.Outcome.{commandsWith, RunAtOnce, pendingRest}
 
@@ -133,10 +132,6 @@ at-once-short (c ∷ q) = by (takesNone c) (at-once-short q)
     by true h = omega arith
     by false h = omega arith
 
-at-most-four : (w : ℕ) → length (commandsOf w) ≤ 4
-unfolding commandsOf
-at-most-four w = omega (arith, up-to-last-short (commandBytes w), length-commandBytes w)
-
 pub few-at-once : (n queue : ℕ) → RunAtOnce n queue → n ≤ 4
 few-at-once n queue r =
     omega (
@@ -145,5 +140,5 @@ few-at-once n queue r =
       length-map (bytes n queue) (λ b. command b (take (count b) [])),
       ap length (r []),
       at-once-short (commandsOf queue),
-      at-most-four queue,
+      commands-few queue,
     )

@@ -13,6 +13,7 @@ use Rattle.commands.proofs.Table.{count-small}
 use Rattle.stream.specs.Pending.{Pending, idle, commandsOf}
 use Rattle.stream.specs.Command.{Command, command}
 use Rattle.stream.specs.Step.{refused, accepted, atOnce, afterThem, commandWord, parameterWord, wordStep}
+use Rattle.stream.proofs.StepLaws.{length-snoc}
 use Rattle.stream.proofs.QueueLaws.{commands-next, commands-none}
 use Rattle.state.specs.declared.Stream.{Stream}
 use Rattle.state.specs.Sound.{pendingOf}
@@ -49,9 +50,8 @@ pub settled-behind : (queue n rest : ℕ) (dummy : Bool) (held : List ℕ) → R
     (command (queue % 256) (take (count (queue % 256)) held) ∷ atOnce (commandsOf (queue / 256)))
 unfolding stepOf completed pendingOf
 settled-behind queue n rest dummy held run left =
-    rw (add-one n)
-    (ap₂ (λ (p : Pending) (cs : List Command). accepted p (command (queue % 256) (take (count (queue % 256)) held) ∷ cs))
-    left (run held))
+    let first : Command = command (queue % 256) (take (count (queue % 256)) held) in
+    rw (add-one n) (ap₂ (λ (p : Pending) (cs : List Command). accepted p (first ∷ cs)) left (run held))
 
 -- ---- the definition
 
@@ -91,14 +91,11 @@ module _ (held : List ℕ) (n v : ℕ) (long : length held ≡ 32) (h : n < 32) 
   held-more = sym (rw (add-one n) (take-suc-set held n v (omega arith)))
 
   pub length-more : length (take n held ++ v ∷ []) ≡ n + 1
-  length-more = omega (arith, length-append (take n held) (v ∷ []), length-take-le n held (omega arith))
+  length-more = omega (arith, length-snoc (take n held) v, length-take-le n held (omega arith))
 
 module _ (s : Stream) (w : ℕ) (long : length (s .held) ≡ 32) (fits : s .queue < 2 ^ 32) (l : Lacks s) where
   pub few : s .count < 32
   few = omega (arith, l .fewer, count-small (s .queue % 256))
-
-  new : List ℕ
-  new = take (s .count) (s .held) ++ w ∷ []
 
   -- the command still lacks some
   pub parameter-held : s .count + 1 < count (s .queue % 256)

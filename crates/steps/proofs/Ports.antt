@@ -12,6 +12,7 @@ use Rattle.commands.proofs.Table.{count-small}
 use Rattle.stream.specs.Pending.{idle, packedPending}
 use Rattle.stream.specs.Command.{takesNone, command, write}
 use Rattle.stream.specs.Step.{refused, accepted, heldWith, portParameter, portStep}
+use Rattle.stream.proofs.CommandLaws.{count-takes-some}
 use Rattle.state.specs.declared.Stream.{Stream}
 use Rattle.state.specs.Sound.{pendingOf}
 use Rattle.steps.specs.Outcome.{outcome, completed, stepOf, idleStream, LacksAt}
@@ -58,10 +59,6 @@ module _ (s : Stream) (c v : ℕ) (long : length (s .held) ≡ 32) (l : LacksAt 
   pub few : s .count < 32
   few = omega (arith, l .fewer some, count-small c)
 
-  takes-some : takesNone c ≡ false
-  unfolding takesNone
-  takes-some = ne-eqb (count c) 0 (λ z. omega arith)
-
   -- the command still lacks some
   pub port-held : s .count + 1 < count c
       → stepOf (outcome 0 (record {
@@ -75,7 +72,7 @@ module _ (s : Stream) (c v : ℕ) (long : length (s .held) ≡ 32) (l : LacksAt 
   unfolding stepOf completed pendingOf portParameter heldWith
   port-held m =
       rw (
-        takes-some,
+        count-takes-some c some,
         lt-ltb (length (take (s .count) (s .held) ++ v ∷ [])) (count c)
             (omega (arith, length-more (s .held) (s .count) v long few)),
         held-more (s .held) (s .count) v long few,
@@ -91,7 +88,7 @@ module _ (s : Stream) (c v : ℕ) (long : length (s .held) ≡ 32) (l : LacksAt 
       let all : count c ≡ s .count + 1 = omega (arith, l .fewer some) in
       port-outcome c (set (s .held) (s .count) v) h
       ∙ rw (
-        takes-some,
+        count-takes-some c some,
         le-ltb (length (take (s .count) (s .held) ++ v ∷ [])) (count c)
             (omega (arith, length-more (s .held) (s .count) v long few)),
         held-more (s .held) (s .count) v long few,

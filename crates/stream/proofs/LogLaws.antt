@@ -35,7 +35,7 @@ writes-snoc : (a : ℕ) (h : List ℕ) (v : ℕ) (l : List Write)
 writes-snoc a [] v l = refl
 writes-snoc a (x ∷ h) v l = ap (λ (k : List Write). write a x ∷ k) (writes-snoc a h v l)
 
--- A write that is taken: with the writes that made what was held before, it makes what is held now or the writes of the
+-- A write that is accepted: with the writes that made what was held before, it makes what is held now or the writes of the
 -- commands that are complete
 WritesKept : Pending → Write → Step → Type 0
 WritesKept s w (refused n) = Unit {0}
@@ -84,7 +84,8 @@ module _ (s : Pending) (w : Write) (c : ℕ) (e : commandAt (w .address) ≡ c) 
 
       by : (t : Bool) → takesNone c ≡ t
           → WritesKept s w
-          (cond (ltb (length (k t)) (count c)) (accepted (portPending c (k t)) []) (accepted idle (command c (k t) ∷ [])))
+          (cond (ltb (length (k t)) (count c)) (accepted (portPending c (k t)) [])
+          (accepted idle (command c (k t) ∷ [])))
       by true n = rw (takes-none-count c n) (none-kept n (empty n))
       by false n = parameter-kept n (ltb (length (s .held ++ w .value ∷ [])) (count c))
 

@@ -136,7 +136,7 @@ commands-known : (w : ℕ) → hole (commandBytes w) ≡ false → allKnown (com
 unfolding commandsOf
 commands-known w e = all-known (commandBytes w) (bytes-counted w) ∙ ap not e
 
-commands-few : (w : ℕ) → length (commandsOf w) ≤ 4
+pub commands-few : (w : ℕ) → length (commandsOf w) ≤ 4
 unfolding commandsOf
 commands-few w = omega (arith, up-to-last-short (commandBytes w), length-commandBytes w)
 

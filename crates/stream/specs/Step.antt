@@ -10,8 +10,8 @@ use Rattle.commands.specs.Commands.{count, commandAt, commandBytes, hole}
 use Rattle.stream.specs.Pending.{Pending, idle, dummyDue, queued, portPending, commandsOf, packedPending}
 use Rattle.stream.specs.Command.{takesNone, Command, command, Write}
 
--- refused with a number; or accepted: what is pending then, and the commands that are complete, in the order in which they
--- run
+-- refused with a number; or accepted: what is pending then, and the commands that are complete, in the order in which
+-- they run
 pub data Step : Type 0 where
   refused : ℕ → Step
   accepted : Pending → List Command → Step
@@ -44,7 +44,9 @@ commandWord w =
 -- a parameter of the first command c of a queue c ∷ q, which makes its parameters h
 unfoldable pub parameterWord : ℕ → List ℕ → List ℕ → Step
 parameterWord c q h =
-    cond (ltb (length h) (count c)) (accepted (queued (c ∷ q) h) []) (accepted (afterThem false q) (command c h ∷ atOnce q))
+    cond (ltb (length h) (count c))
+    (accepted (queued (c ∷ q) h) [])
+    (accepted (afterThem false q) (command c h ∷ atOnce q))
 
 -- the dummy, "any dummy is taken"; a command word, where none is queued; else a parameter
 abbrev pub packedStep : Bool → List ℕ → List ℕ → ℕ → Step
