@@ -295,7 +295,31 @@ unfolding commandRows lookup known count port counted commandAt commandBytes hol
     lowBits asSigned unit freshTransform freshGeometry fresh withRooms start soundTransform coloured soundWaiting
     soundGeometry soundCore pendingOf longEnough stored pushPair runStack onPair act runMatrix
     registerCommandOf operationOf runRegisters runOperation execute
-calls = (refl, (refl, (refl, (refl, (refl, (refl, (refl, (refl, (refl, (refl, (refl, (refl, (refl, (refl, (refl, tt)))))))))))))))
+calls = (
+  refl,
+  (
+    refl,
+    (
+      refl,
+      (
+        refl,
+        (
+          refl,
+          (
+            refl,
+            (
+              refl,
+              (
+                refl,
+                (refl, (refl, (refl, (refl, (refl, (refl, (refl, tt))))))),
+              ),
+            ),
+          ),
+        ),
+      ),
+    ),
+  ),
+)
 
 matrices : AllHold matrixRows
 unfolding floorBits lowBits asSigned entry rowBy mul unit scaleMatrix

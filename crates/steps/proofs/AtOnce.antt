@@ -1,12 +1,12 @@
 -- The commands at the front of a queue that take no parameter, counted one by one. Assumes nothing.
 use mathlib.Core.Bool.{Bool, true, false, cond, not, _&&_, and-true, and-false}
-use mathlib.Core.List.{List, [], _∷_, _++_, append-nil, append-assoc}
+use mathlib.Core.List.{List, [], _∷_, _++_, map, append-nil, append-assoc}
 use mathlib.Core.Path.{_≡_, refl, sym, ap, _∙_}
 use Prim.Native.Nat.{ℕ, zero, suc, _+_, _/_, _%_, _^_, _≤_, _<_}
 use native.Mathlib.Numerals.{add-one}
 use native.Mathlib.Omega.{arith}
 use lib.Dec.{eqb}
-use lib.ListN.{length, take, length-map}
+use lib.ListN.{length, length-map}
 use borrow.Author.Tests.{eqb-true, ne-eqb}
 use Rattle.words.specs.Words.{bytes}
 use Rattle.commands.specs.Commands.{known, count, commandBytes, hole}
@@ -17,7 +17,7 @@ use Rattle.stream.specs.Command.{takesNone, Command, command}
 use Rattle.stream.specs.Step.{atOnce, afterThem}
 use Rattle.stream.proofs.StepLaws.{commands-few}
 use Rattle.stream.proofs.QueueLaws.{commands-next, hole-next, commands-none}
-use Rattle.steps.specs.Outcome.{commandsWith, RunAtOnce, pendingRest}
+use Rattle.steps.specs.Outcome.{commandWith, commandsWith, RunAtOnce, pendingRest}
 
 -- ---- one byte more of a word
 
@@ -30,12 +30,10 @@ without-more : (n w : ℕ) → without (suc n) w ≡ without n w / 256
 without-more zero w = refl
 without-more (suc n) w = without-more n (w / 256)
 
-commands-more : (held : List ℕ) (n w : ℕ)
-    → commandsWith held (bytes (suc n) w)
-    ≡ commandsWith held (bytes n w) ++ commandsWith held (without n w % 256 ∷ [])
-commands-more held zero w = refl
-commands-more held (suc n) w =
-    ap (λ (cs : List Command). command (w % 256) (take (count (w % 256)) held) ∷ cs) (commands-more held n (w / 256))
+map-more : {A : Type 0} (f : ℕ → A) (n w : ℕ)
+    → map f (bytes (suc n) w) ≡ map f (bytes n w) ++ f (without n w % 256) ∷ []
+map-more f zero w = refl
+map-more {A} f (suc n) w = ap (λ (l : List A). f (w % 256) ∷ l) (map-more f n (w / 256))
 
 -- ---- after n commands, with q left of the queue
 
@@ -76,7 +74,7 @@ one-counted queue n q h k t r =
       so-far = λ held.
           let read : List Command = commandsWith held (bytes n queue) in
           let more : commandsWith held (bytes (suc n) queue) ≡ read ++ command (q % 256) [] ∷ [] =
-          commands-more held n queue
+          map-more (commandWith held) n queue
           ∙ ap (λ (b : ℕ). read ++ commandsWith held (b ∷ [])) e
           ∙ ap (λ (cs : List Command). read ++ cs) (none-read held (q % 256) t) in
           rw (add-one n)
@@ -137,7 +135,7 @@ few-at-once n queue r =
     omega (
       arith,
       length-bytes n queue,
-      length-map (bytes n queue) (λ b. command b (take (count b) [])),
+      length-map (bytes n queue) (commandWith []),
       ap length (r []),
       at-once-short (commandsOf queue),
       commands-few queue,

@@ -18,9 +18,12 @@ abbrev pub outcome : ℕ → Stream → ℕ → ℕ → Outcome
 outcome number stream commands completed =
     record { number = number; stream = stream; commands = commands; completed = completed }
 
--- commands of these bytes, each with as many of the held parameters as it takes
+-- the command of a byte, with as many of the held parameters as it takes
+abbrev pub commandWith : List ℕ → ℕ → Command
+commandWith held b = command b (take (count b) held)
+
 abbrev pub commandsWith : List ℕ → List ℕ → List Command
-commandsWith held = map (λ b. command b (take (count b) held))
+commandsWith held = map (commandWith held)
 
 -- the commands that are complete: the lowest bytes of a word, as many as are told
 unfoldable pub completed : Outcome → List Command

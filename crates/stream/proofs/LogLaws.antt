@@ -35,8 +35,8 @@ writes-snoc : (a : ℕ) (h : List ℕ) (v : ℕ) (l : List Write)
 writes-snoc a [] v l = refl
 writes-snoc a (x ∷ h) v l = ap (λ (k : List Write). write a x ∷ k) (writes-snoc a h v l)
 
--- A write that is accepted: with the writes that made what was held before, it makes what is held now or the writes of the
--- commands that are complete
+-- A write that is accepted: with the writes that made what was held before, it makes what is held now or the writes of
+-- the commands that are complete
 WritesKept : Pending → Write → Step → Type 0
 WritesKept s w (refused n) = Unit {0}
 WritesKept s w (accepted t cs) =
