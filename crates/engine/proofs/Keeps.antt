@@ -15,11 +15,12 @@ use Rattle.state.specs.declared.Core.{Core}
 use Rattle.state.specs.declared.Engine.{Engine}
 use Rattle.state.specs.declared.Answer.{Answer}
 use Rattle.state.specs.Sound.{soundCore, pendingOf, soundStream, sound}
+use Rattle.state.proofs.SoundLaws.{sound-parts}
 use Rattle.polygons.specs.Buffers.{Buffered, buffered}
 use Rattle.execute.proofs.Keeps.{CoreKept, execute-kept}
 use Rattle.engine.specs.Call.{exec, coreSound, buffersLong, machineOf, replyOf, wordReply, portReply}
 use Rattle.engine.proofs.Run.{core-kept-more}
-use Rattle.engine.proofs.Calls.{sound-core, sound-stream}
+use Rattle.engine.proofs.Calls.{sound-core}
 
 -- an engine and its buffers after a call
 pub record EngineKept (e : Engine) (vertices : List ℤ) (polygons : List ℕ) (f : Engine) (vs : List ℤ) (ps : List ℕ)
@@ -50,7 +51,7 @@ module _ (e : Engine) (vertices : List ℤ) (polygons : List ℕ) (h : sound e �
       let k : KeepingMachine exec (CoreKept start) more (machineOf (r .engine) vs ps) =
       subst (λ (x : Reply (Buffered Core)). KeepingMachine exec (CoreKept start) more (x .left)) (sym told)
       (call-keeps exec (CoreKept start) more coreSound buffersLong step step-keeps m a
-      (nothing, sound-stream e h)) in
+      (nothing, sound-parts e h .stream)) in
       record {
         is-sound = and-eq-true-iff (soundCore (r .engine .core)) (soundPending (pendingOf (r .engine .stream))) .1
             (k .0 .sound, k .1);

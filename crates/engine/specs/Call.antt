@@ -14,11 +14,6 @@ use Rattle.state.specs.Sound.{soundCore, pendingOf, sound}
 use Rattle.polygons.specs.Buffers.{Buffered, buffered, longEnough}
 use Rattle.execute.specs.Execute.{execute}
 
--- 1, 2, or 0 where neither falls
-unfoldable pub firstNumber : Engine → ℕ → ℕ → ℕ
-firstNumber e vertices polygons =
-    cond (sound e) (cond (longEnough (e .core .registers .geometry .rooms) vertices polygons) 0 2) 1
-
 -- a command on the core and the caller's buffers
 abbrev pub exec : Command → Buffered Core → Buffered Core
 exec c s = execute (c .byte) (c .parameters) s
@@ -51,3 +46,10 @@ wordReply = wordCall exec coreSound buffersLong
 -- the port write call: "1, 2, 5, 4, 6"
 abbrev pub portReply : Machine (Buffered Core) → Write → Reply (Buffered Core)
 portReply = portCall exec coreSound buffersLong
+
+-- ---- inside the calls
+
+-- the numbers that come before the step's own: 1, then 2; 0 where neither falls
+unfoldable pub firstNumber : Engine → ℕ → ℕ → ℕ
+firstNumber e vertices polygons =
+    cond (sound e) (cond (longEnough (e .core .registers .geometry .rooms) vertices polygons) 0 2) 1

@@ -100,8 +100,8 @@ abbrev atStart : Machine (Buffered Core)
 atStart = machine (startWith 1 1) idle
 
 -- what answers a word after others
-abbrev afterWords : List ℕ → ℕ → Reply (Buffered Core)
-afterWords ws w = wordReply (after wordReply atStart ws) w
+abbrev replyAfter : List ℕ → ℕ → Reply (Buffered Core)
+replyAfter ws w = wordReply (after wordReply atStart ws) w
 
 -- the same with buffers of no numbers
 abbrev noBuffers : Machine (Buffered Core) → Machine (Buffered Core)
@@ -159,9 +159,9 @@ callRows =
     ∷ row (wordReply atStart 0) (reply 0 atStart)
     ∷ row (wordReply atStart 0x9f73_ffab) (reply 0 atStart)
     -- of "A command runs with the word that completes it": 10h and 15h in one word, then mode 2, then any dummy
-    ∷ row (afterWords (0x1510 ∷ []) 2)
+    ∷ row (replyAfter (0x1510 ∷ []) 2)
     (reply 0 (machine (runs ((0x10, 2 ∷ []) ∷ (0x15, []) ∷ []) (startWith 1 1)) (dummyDue true)))
-    ∷ row (afterWords (0x1510 ∷ 2 ∷ []) 77)
+    ∷ row (replyAfter (0x1510 ∷ 2 ∷ []) 77)
     (reply 0 (machine (runs ((0x10, 2 ∷ []) ∷ (0x15, []) ∷ []) (startWith 1 1)) idle))
     -- and of 11h first: it runs with the command word
     ∷ row (wordReply atStart 0x1011)
