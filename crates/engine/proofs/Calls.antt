@@ -19,7 +19,7 @@ use Rattle.state.proofs.SoundLaws.{sound-parts, parts-core}
 use Rattle.state.proofs.GeometryLaws.{geometry-ranges, room-limits}
 use Rattle.polygons.specs.Buffers.{Buffered, longEnough}
 use Rattle.steps.specs.declared.Outcome.{Outcome}
-use Rattle.steps.specs.Outcome.{completed, stepOf}
+use Rattle.steps.specs.Outcome.{completedOf, stepOf}
 use Rattle.engine.specs.Call.{firstNumber, exec, coreSound, buffersLong, machineOf, replyOf, GivenBack}
 
 -- ---- numbers 1 and 2
@@ -126,12 +126,12 @@ module _ (m : Machine (Buffered Core)) (r : Outcome) where
   refused-step n = rw (ne-eqb (r .number) 0 n)
 
   pub taken-step : r .number ≡ 0
-      → afterStep exec m (stepOf r) ≡ reply 0 (machine (run exec (completed r) (m .state)) (pendingOf (r .stream)))
+      → afterStep exec m (stepOf r) ≡ reply 0 (machine (run exec (completedOf r) (m .state)) (pendingOf (r .stream)))
   unfolding stepOf
   taken-step z = rw (eq-eqb (r .number) 0 z)
 
   -- no command is complete
   pub none-to-run : r .number ≡ 0 → r .completed ≡ 0
       → afterStep exec m (stepOf r) ≡ reply 0 (machine (m .state) (pendingOf (r .stream)))
-  unfolding completed
+  unfolding completedOf
   none-to-run z n = taken-step z ∙ rw n

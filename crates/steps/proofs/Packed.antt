@@ -17,7 +17,7 @@ use Rattle.stream.proofs.StepLaws.{length-snoc}
 use Rattle.stream.proofs.QueueLaws.{commands-next, commands-none}
 use Rattle.state.specs.declared.Stream.{Stream}
 use Rattle.state.specs.Sound.{pendingOf}
-use Rattle.steps.specs.Outcome.{outcome, completed, stepOf, idleStream, RunAtOnce, pendingRest, streamAfter}
+use Rattle.steps.specs.Outcome.{outcome, completedOf, stepOf, idleStream, RunAtOnce, pendingRest, streamAfter}
 use Rattle.steps.specs.Outcome.{Lacks}
 
 -- ---- what an outcome stands for
@@ -31,7 +31,7 @@ unfolding pendingOf
 idle-pending held = rw commands-of-zero
 
 pub idle-outcome : (held : List ℕ) → stepOf (outcome 0 (idleStream held) 0 0) ≡ accepted idle []
-unfolding stepOf completed
+unfolding stepOf completedOf
 idle-outcome held = ap (λ (p : Pending). accepted p []) (idle-pending held)
 
 -- a command word, the commands at its front run
@@ -39,7 +39,7 @@ pub settled : (queue n rest : ℕ) (dummy : Bool) (held : List ℕ) → RunAtOnc
     → pendingRest rest dummy ≡ afterThem false (commandsOf queue)
     → stepOf (outcome 0 (streamAfter rest dummy held) queue n)
     ≡ accepted (afterThem false (commandsOf queue)) (atOnce (commandsOf queue))
-unfolding stepOf completed pendingOf
+unfolding stepOf completedOf pendingOf
 settled queue n rest dummy held run left = ap₂ accepted left (run held)
 
 -- the queue behind a command that has its last parameter
@@ -48,7 +48,7 @@ pub settled-behind : (queue n rest : ℕ) (dummy : Bool) (held : List ℕ) → R
     → stepOf (outcome 0 (streamAfter rest dummy held) queue (n + 1))
     ≡ accepted (afterThem false (commandsOf (queue / 256)))
     (command (queue % 256) (take (count (queue % 256)) held) ∷ atOnce (commandsOf (queue / 256)))
-unfolding stepOf completed pendingOf
+unfolding stepOf completedOf pendingOf
 settled-behind queue n rest dummy held run left =
     let first : Command = command (queue % 256) (take (count (queue % 256)) held) in
     rw (add-one n) (ap₂ (λ (p : Pending) (cs : List Command). accepted p (first ∷ cs)) left (run held))
@@ -107,7 +107,7 @@ module _ (s : Stream) (w : ℕ) (long : length (s .held) ≡ 32) (fits : s .queu
         port = 0;
       }) 0 0)
       ≡ parameterWord (s .queue % 256) (commandsOf (s .queue / 256)) (take (s .count) (s .held) ++ w ∷ [])
-  unfolding stepOf completed pendingOf parameterWord
+  unfolding stepOf completedOf pendingOf parameterWord
   parameter-held m =
       rw (
         lt-ltb (length (take (s .count) (s .held) ++ w ∷ [])) (count (s .queue % 256))

@@ -15,7 +15,7 @@ use Rattle.stream.specs.Step.{refused, accepted, heldWith, portParameter, portS
 use Rattle.stream.proofs.CommandLaws.{count-takes-some}
 use Rattle.state.specs.declared.Stream.{Stream}
 use Rattle.state.specs.Sound.{pendingOf}
-use Rattle.steps.specs.Outcome.{outcome, completed, stepOf, idleStream, LacksAt}
+use Rattle.steps.specs.Outcome.{outcome, completedOf, stepOf, idleStream, LacksAt}
 use Rattle.steps.proofs.Packed.{commands-of-zero, idle-pending, held-more, length-more}
 
 -- ---- the definition
@@ -46,7 +46,7 @@ module _ (s : Stream) (a v : ℕ) where
 
 pub port-outcome : (c : ℕ) (held : List ℕ) → c < 256
     → stepOf (outcome 0 (idleStream held) c 1) ≡ accepted idle (command c (take (count c) held) ∷ [])
-unfolding stepOf completed
+unfolding stepOf completedOf
 port-outcome c held h = let e : c % 256 ≡ c = omega arith in rw (e, idle-pending held)
 
 -- a port without parameters
@@ -69,7 +69,7 @@ module _ (s : Stream) (c v : ℕ) (long : length (s .held) ≡ 32) (l : LacksAt 
         port = c;
       }) 0 0)
       ≡ portParameter c (heldWith c (take (s .count) (s .held)) v)
-  unfolding stepOf completed pendingOf portParameter heldWith
+  unfolding stepOf completedOf pendingOf portParameter heldWith
   port-held m =
       rw (
         count-takes-some c some,

@@ -26,11 +26,12 @@ abbrev pub commandsWith : List ℕ → List ℕ → List Command
 commandsWith held = map (commandWith held)
 
 -- the commands that are complete: the lowest bytes of a word, as many as are told
-unfoldable pub completed : Outcome → List Command
-completed r = commandsWith (r .stream .held) (bytes (r .completed) (r .commands))
+unfoldable pub completedOf : Outcome → List Command
+completedOf r = commandsWith (r .stream .held) (bytes (r .completed) (r .commands))
 
+-- the step that an outcome tells
 unfoldable pub stepOf : Outcome → Step
-stepOf r = cond (eqb (r .number) 0) (accepted (pendingOf (r .stream)) (completed r)) (refused (r .number))
+stepOf r = cond (eqb (r .number) 0) (accepted (pendingOf (r .stream)) (completedOf r)) (refused (r .number))
 
 -- a stream with nothing pending; what it held stays where it was
 abbrev pub idleStream : List ℕ → Stream

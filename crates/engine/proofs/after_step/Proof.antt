@@ -6,7 +6,7 @@ use Rattle.state.specs.declared.Core.{Core}
 use Rattle.state.specs.declared.Answer.{Answer}
 use Rattle.state.specs.Sound.{pendingOf}
 use Rattle.polygons.specs.Buffers.{Buffered}
-use Rattle.steps.specs.Outcome.{completed}
+use Rattle.steps.specs.Outcome.{completedOf}
 use Rattle.engine.specs.Call.{machineOf, replyOf}
 use Rattle.engine.proofs.Calls.{refused-step, taken-step, none-to-run, given-back, taken-whole}
 use Rattle.engine.proofs.after_step.Statement.{statement}
@@ -49,7 +49,7 @@ same-length-2 : tie.Need-same-length-2
 same-length-2 c = search needs
 
 returns-3 : tie.Need-returns-3
-unfolding completed
+unfolding completedOf
 returns-3 c =
     let a = c .before .before .before .before .before .before .before .before .before .before .before .before .before
     .before .args in
