@@ -87,13 +87,13 @@ fn after_step(e: Engine, step: Outcome, vertices: &mut [i32], polygons: &mut [u3
         ≡ afterStep exec (machineOf e (now (vertices .entry)) (now (polygons .entry))) (stepOf step) ⌝ }
     ensures { λ r. ⌜ GivenBack e r ⌝ }
 {
-    if step.number != 0 {
-        return answered(step.number, e);
-    }
     let stream = step.stream;
+    let mut n = e;
+    if step.number != 0 {
+        return answered(step.number, n);
+    }
+    n.stream = stream;
     if step.completed == 0 {
-        let mut n = e;
-        n.stream = stream;
         return answered(0, n);
     }
     let held = stream.held;

@@ -17,7 +17,7 @@ answered-requires c κs = search needs
 
 returns : tie.Need-returns
 returns c =
-    let a = c .before .before .before .before .args in
+    let a = c .before .before .before .before .before .args in
     let m = machineOf (a .e) (a .vertices .now) (a .polygons .now) in (
       ap (λ (r : Answer). replyOf r (a .vertices .now) (a .polygons .now)) (c .answered .ensures)
           ∙ sym (refused-step m (a .step) (c .before .if1 .taken)),
@@ -32,7 +32,7 @@ returns-2 c =
     let a = c .before .before .before .before .before .before .before .args in
     let m = machineOf (a .e) (a .vertices .now) (a .polygons .now) in (
       ap (λ (r : Answer). replyOf r (a .vertices .now) (a .polygons .now)) (c .answered2 .ensures)
-          ∙ sym (none-to-run m (a .step) (c .before .before .before .before .if1 .left) (c .before .if2 .taken)),
+          ∙ sym (none-to-run m (a .step) (c .before .before .before .if1 .left) (c .before .if2 .taken)),
       taken-whole (a .e) _ _ (c .answered2 .ensures),
     )
 
@@ -58,7 +58,7 @@ returns-3 c =
       ap (λ (r : Answer). replyOf r (ran .last .1 .1 .1 .1 .0) (ran .last .1 .1 .1 .1 .1 .0)) (c .answered3 .ensures)
           ∙ ap (λ (s : Buffered Core). reply 0 (machine s (pendingOf (a .step .stream)))) (ran .ensures)
           ∙ sym (taken-step m (a .step)
-          (c .before .before .before .before .before .before .before .before .before .before .before .if1 .left)),
+          (c .before .before .before .before .before .before .before .before .before .before .if1 .left)),
       taken-whole (a .e) _ _ (c .answered3 .ensures),
     )
 
