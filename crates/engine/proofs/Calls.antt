@@ -20,7 +20,9 @@ use Rattle.state.proofs.GeometryLaws.{geometry-ranges, room-limits}
 use Rattle.polygons.specs.Buffers.{Buffered, longEnough}
 use Rattle.steps.specs.declared.Outcome.{Outcome}
 use Rattle.steps.specs.Outcome.{completedOf, stepOf}
-use Rattle.engine.specs.Call.{firstNumber, exec, coreSound, buffersLong, machineOf, replyOf, GivenBack}
+use Rattle.execute.specs.Execute.{buffersLong}
+use Rattle.engine.specs.Call.{exec, coreSound, machineOf, replyOf, GivenBack}
+use Rattle.engine.specs.Inside.{firstNumber}
 
 -- ---- numbers 1 and 2
 

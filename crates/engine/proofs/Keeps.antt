@@ -10,7 +10,7 @@ use Rattle.stream.specs.Command.{Command, Complete, Write}
 use Rattle.stream.specs.Step.{Step, wordStep, portStep}
 use Rattle.stream.specs.Call.{Reply, callBy}
 use Rattle.stream.proofs.StepLaws.{KeepsSound, word-keeps, port-keeps}
-use Rattle.stream.proofs.CallLaws.{KeepingMachine, call-keeps}
+use Rattle.stream.proofs.CallLaws.{Keeping, call-keeps}
 use Rattle.state.specs.declared.Core.{Core}
 use Rattle.state.specs.declared.Engine.{Engine}
 use Rattle.state.specs.declared.Answer.{Answer}
@@ -18,7 +18,8 @@ use Rattle.state.specs.Sound.{soundCore, pendingOf, soundStream, sound}
 use Rattle.state.proofs.SoundLaws.{sound-parts}
 use Rattle.polygons.specs.Buffers.{Buffered, buffered}
 use Rattle.execute.proofs.Keeps.{CoreKept, execute-kept}
-use Rattle.engine.specs.Call.{exec, coreSound, buffersLong, machineOf, replyOf, wordReply, portReply}
+use Rattle.execute.specs.Execute.{buffersLong}
+use Rattle.engine.specs.Call.{exec, coreSound, machineOf, replyOf, wordReply, portReply}
 use Rattle.engine.proofs.Run.{core-kept-more}
 use Rattle.engine.proofs.Calls.{sound-core}
 
@@ -48,8 +49,8 @@ module _ (e : Engine) (vertices : List ℤ) (polygons : List ℕ) (h : sound e �
       let m = machineOf e vertices polygons in
       let nothing : CoreKept start start =
       record { sound = sound-core e h; rooms = refl; vertices = refl; polygons = refl } in
-      let k : KeepingMachine exec (CoreKept start) more (machineOf (r .engine) vs ps) =
-      subst (λ (x : Reply (Buffered Core)). KeepingMachine exec (CoreKept start) more (x .left)) (sym told)
+      let k : Keeping (CoreKept start) (machineOf (r .engine) vs ps) =
+      subst (λ (x : Reply (Buffered Core)). Keeping (CoreKept start) (x .left)) (sym told)
       (call-keeps exec (CoreKept start) more coreSound buffersLong step step-keeps m a
       (nothing, sound-parts e h .stream)) in
       record {

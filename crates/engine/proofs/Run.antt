@@ -13,8 +13,8 @@ use Rattle.state.specs.declared.Core.{Core}
 use Rattle.state.specs.Sound.{soundCore}
 use Rattle.polygons.specs.Buffers.{Buffered}
 use Rattle.steps.specs.Outcome.{commandsWith}
-use Rattle.execute.specs.Execute.{execute}
-use Rattle.execute.proofs.Keeps.{CoreKept, execute-kept, LongEnough, long-enough-kept}
+use Rattle.execute.specs.Execute.{buffersLong, execute}
+use Rattle.execute.proofs.Keeps.{CoreKept, execute-kept, long-enough-kept}
 use Rattle.execute.proofs.Parameters.{execute-cut}
 use Rattle.engine.specs.Call.{exec}
 
@@ -31,10 +31,10 @@ core-kept-more a b c f g =
 -- The commands of the n lowest bytes of a word are to run on s; with `left` of them to come, those of `rest`, it is t
 pub record Running (held : List ℕ) (n word : ℕ) (s : Buffered Core) (left rest : ℕ) (t : Buffered Core) : Type 0 where
   pub kept : CoreKept s t
-  pub long : LongEnough t
+  pub long : buffersLong t ≡ true
   pub same : run exec (commandsWith held (bytes left rest)) t ≡ run exec (commandsWith held (bytes n word)) s
 
-pub none-run : (held : List ℕ) (n word : ℕ) (s : Buffered Core) → soundCore (s .part) ≡ true → LongEnough s
+pub none-run : (held : List ℕ) (n word : ℕ) (s : Buffered Core) → soundCore (s .part) ≡ true → buffersLong s ≡ true
     → Running held n word s n word s
 none-run held n word s e l =
     record {

@@ -1,18 +1,17 @@
 -- The two calls of the real engine: document 01, "Numbers a call can refuse with". Assumes nothing.
-use mathlib.Core.Bool.{Bool, cond}
+use mathlib.Core.Bool.{Bool}
 use mathlib.Core.List.{List}
 use mathlib.Core.Path.{_≡_}
 use Prim.Native.Nat.{ℕ}
 use lib.IntN.{ℤ}
-use lib.ListN.{length}
 use Rattle.stream.specs.Command.{Command, Write}
 use Rattle.stream.specs.Call.{Machine, Reply, machine, wordCall, portCall}
 use Rattle.state.specs.declared.Core.{Core}
 use Rattle.state.specs.declared.Engine.{Engine}
 use Rattle.state.specs.declared.Answer.{Answer}
-use Rattle.state.specs.Sound.{soundCore, pendingOf, sound}
-use Rattle.polygons.specs.Buffers.{Buffered, buffered, longEnough}
-use Rattle.execute.specs.Execute.{execute}
+use Rattle.state.specs.Sound.{soundCore, pendingOf}
+use Rattle.polygons.specs.Buffers.{Buffered, buffered}
+use Rattle.execute.specs.Execute.{buffersLong, execute}
 
 -- a command on the core and the caller's buffers
 abbrev pub exec : Command → Buffered Core → Buffered Core
@@ -21,10 +20,6 @@ exec c s = execute (c .byte) (c .parameters) s
 -- number 1 does not fall on the core
 abbrev pub coreSound : Buffered Core → Bool
 coreSound s = soundCore (s .part)
-
--- number 2 does not fall
-abbrev pub buffersLong : Buffered Core → Bool
-buffersLong s = longEnough (s .part .registers .geometry .rooms) (length (s .vertices)) (length (s .polygons))
 
 -- what the engine's record and the two buffers stand for
 abbrev pub machineOf : Engine → List ℤ → List ℕ → Machine (Buffered Core)
@@ -46,10 +41,3 @@ wordReply = wordCall exec coreSound buffersLong
 -- the port write call: "1, 2, 5, 4, 6"
 abbrev pub portReply : Machine (Buffered Core) → Write → Reply (Buffered Core)
 portReply = portCall exec coreSound buffersLong
-
--- ---- inside the calls
-
--- the numbers that come before the step's own: 1, then 2; 0 where neither falls
-unfoldable pub firstNumber : Engine → ℕ → ℕ → ℕ
-firstNumber e vertices polygons =
-    cond (sound e) (cond (longEnough (e .core .registers .geometry .rooms) vertices polygons) 0 2) 1

@@ -1,16 +1,17 @@
 // The engine's two calls: one packed word, one port write. The record goes by value; the caller's two buffers are
-// borrowed for the call.
+// borrowed for the call. Document 01, "Commands and their parameters" and "Numbers a call can refuse with".
 ghost use mathlib.Core.Path.{_≡_};
 ghost use mathlib.Core.Bool.{true};
-ghost use lib.ListN.{length};
 ghost use Rattle.words.specs.Words.{bytes};
 ghost use Rattle.commands.specs.Commands.{parameterTable};
 ghost use Rattle.stream.specs.Command.{write};
 ghost use Rattle.stream.specs.Call.{run, afterStep};
 ghost use Rattle.state.specs.Sound.{soundCore};
-ghost use Rattle.polygons.specs.Buffers.{buffered, longEnough};
+ghost use Rattle.polygons.specs.Buffers.{buffered};
+ghost use Rattle.execute.specs.Execute.{buffersLong};
 ghost use Rattle.steps.specs.Outcome.{commandsWith, stepOf};
-ghost use Rattle.engine.specs.Call.{exec, firstNumber, machineOf, replyOf, GivenBack, wordReply, portReply};
+ghost use Rattle.engine.specs.Call.{exec, machineOf, replyOf, GivenBack, wordReply, portReply};
+ghost use Rattle.engine.specs.Inside.{firstNumber};
 use commands::parameter_table;
 use execute::Operation;
 use execute::operation_of;
@@ -37,8 +38,7 @@ fn run_commands(
     polygons: &mut [u32],
 ) -> Core
     requires { ⌜ soundCore core ≡ true ⌝ }
-    requires { ⌜ longEnough (core .registers .geometry .rooms) (length (now vertices)) (length (now polygons))
-        ≡ true ⌝ }
+    requires { ⌜ buffersLong (buffered core (now vertices) (now polygons)) ≡ true ⌝ }
     ensures { λ r. ⌜ buffered r (now (vertices .exit)) (now (polygons .exit))
         ≡ run exec (commandsWith held (bytes count commands))
         (buffered core (now (vertices .entry)) (now (polygons .entry))) ⌝ }
@@ -81,8 +81,7 @@ fn first_number(table: &[u8; 256], e: Engine, vertices: usize, polygons: usize) 
 // The answer to a word or a port write: its refusal, or the engine after the commands that it completes.
 fn after_step(e: Engine, step: Outcome, vertices: &mut [i32], polygons: &mut [u32]) -> Answer
     requires { ⌜ soundCore (e .core) ≡ true ⌝ }
-    requires { ⌜ longEnough (e .core .registers .geometry .rooms) (length (now vertices)) (length (now polygons))
-        ≡ true ⌝ }
+    requires { ⌜ buffersLong (buffered (e .core) (now vertices) (now polygons)) ≡ true ⌝ }
     ensures { λ r. ⌜ replyOf r (now (vertices .exit)) (now (polygons .exit))
         ≡ afterStep exec (machineOf e (now (vertices .entry)) (now (polygons .entry))) (stepOf step) ⌝ }
     ensures { λ r. ⌜ GivenBack e r ⌝ }
@@ -114,7 +113,8 @@ fn after_step(e: Engine, step: Outcome, vertices: &mut [i32], polygons: &mut [u3
     )
 }
 
-// One packed word.
+// One packed word: a command word, a parameter or a dummy. Refused with 1, 2, 4 or 3, in this order; a refused call hands
+// back the engine that it was given and leaves both buffers as they were.
 pub fn word(e: Engine, w: u32, vertices: &mut [i32], polygons: &mut [u32]) -> Answer
     ensures { λ r. ⌜ replyOf r (now (vertices .exit)) (now (polygons .exit))
         ≡ wordReply (machineOf e (now (vertices .entry)) (now (polygons .entry))) w ⌝ }
@@ -130,7 +130,8 @@ pub fn word(e: Engine, w: u32, vertices: &mut [i32], polygons: &mut [u32]) -> An
     after_step(e, step, &mut *vertices, &mut *polygons)
 }
 
-// One port write.
+// One port write. Refused with 1, 2, 5, 4 or 6, in this order; a refused call hands back the engine that it was given and
+// leaves both buffers as they were.
 pub fn port_write(
     e: Engine,
     address: u32,

@@ -1,7 +1,8 @@
 -- One command on the core and the caller's two buffers. Assumes nothing.
+use mathlib.Core.Bool.{Bool}
 use mathlib.Core.List.{List}
 use Prim.Native.Nat.{ℕ}
-use lib.ListN.{getD}
+use lib.ListN.{length, getD}
 use Rattle.state.specs.declared.Registers.{Registers}
 use Rattle.state.specs.declared.Core.{Core}
 use Rattle.state.specs.With.{withTransform, withGeometry, withRegisters}
@@ -9,13 +10,17 @@ use Rattle.state.specs.Clip.{clipOf}
 use Rattle.stacks.specs.declared.Matrices.{Matrices}
 use Rattle.stacks.specs.Stack.{runStack}
 use Rattle.transforms.specs.Command.{runMatrix}
-use Rattle.polygons.specs.Buffers.{Buffered, beside}
+use Rattle.polygons.specs.Buffers.{Buffered, beside, longEnough}
 use Rattle.geometry.specs.Command.{runGeometry}
 use Rattle.execute.specs.declared.RegisterCommand.{RegisterCommand}
 use Rattle.execute.specs.declared.RegisterCommand.the-variants.{Matrix, Geometry, Carried, NoCommand}
 use Rattle.execute.specs.declared.Operation.{Operation}
 use Rattle.execute.specs.declared.Operation.the-variants.{Stack, Register}
 use Rattle.execute.specs.Operation.{operationOf}
+
+-- the buffers beside a core are long enough: number 2 does not fall
+abbrev pub buffersLong : Buffered Core → Bool
+buffersLong s = longEnough (s .part .registers .geometry .rooms) (length (s .vertices)) (length (s .polygons))
 
 -- ---- commands that use no stack, with their parameters p
 

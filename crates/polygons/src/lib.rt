@@ -25,7 +25,8 @@ const POLYGON_WIDTH: usize = 3;
 // A polygon as the caller's buffer holds it: first vertex, 3 or 4, attributes.
 type PolygonRecord = [u32; POLYGON_WIDTH];
 
-// The caller's buffers are as long as the rooms ask. For the crates above this one: number 1 does not fall.
+// The caller's buffers are as long as the rooms ask, so that number 2 does not fall. For the crates above this one:
+// number 1 does not fall.
 pub fn is_long_enough(rooms: Counts, vertices: usize, polygons: usize) -> bool
     requires { ⌜ (rooms .vertices ≤ 6144) × (rooms .polygons ≤ 2048) ⌝ }
     ensures { λ r. ⌜ r ≡ longEnough rooms vertices polygons ⌝ }

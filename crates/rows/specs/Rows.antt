@@ -11,9 +11,9 @@ use Rattle.commands.specs.declared.Count.the-variants.{Takes, Unknown}
 use Rattle.commands.specs.Commands.{commandRows, lookup, known, count, port, counted, commandAt, commandBytes, hole}
 use Rattle.matrix.specs.Matrix.{entry, rowBy, mul, unit, scaleMatrix, at, one}
 use Rattle.stream.specs.Pending.{idle, dummyDue, queued, commandsOf, soundPending}
-use Rattle.stream.specs.Command.{takesNone, write}
+use Rattle.stream.specs.Command.{takesNone, command, write}
 use Rattle.stream.specs.Step.{commandWord, parameterWord, wordStep, heldWith, portParameter, portStep}
-use Rattle.stream.specs.Call.{Machine, Reply, machine, reply, callBy}
+use Rattle.stream.specs.Call.{Machine, Reply, machine, reply, run, callBy}
 use Rattle.stream.specs.Demand3.{after}
 use Rattle.state.specs.declared.OpenList.the-variants.{TriangleStrip}
 use Rattle.state.specs.declared.Geometry.{Geometry}
@@ -39,7 +39,7 @@ use Rattle.geometry.specs.Vertex.{joined, assembled, remaining, taken, vertexAt
 use Rattle.geometry.specs.Command.{runGeometry}
 use Rattle.execute.specs.Operation.{carried, registerCommandOf, operationOf}
 use Rattle.execute.specs.Execute.{runRegisters, runOperation, execute}
-use Rattle.engine.specs.Call.{wordReply, portReply}
+use Rattle.engine.specs.Call.{exec, wordReply, portReply}
 
 pub record WorkedRow : Type 1 where
   pub Kind : Type 0
@@ -103,14 +103,13 @@ atStart = machine (startWith 1 1) idle
 abbrev replyAfter : List ℕ → ℕ → Reply (Buffered Core)
 replyAfter ws w = wordReply (after wordReply atStart ws) w
 
--- the same with buffers of no numbers
+-- a machine with empty buffers
 abbrev noBuffers : Machine (Buffered Core) → Machine (Buffered Core)
 noBuffers m = machine (buffered (m .state .part) [] []) (m .pending)
 
 -- commands one after another, each a byte and its parameters
 abbrev runs : List (ℕ × List ℕ) → Buffered Core → Buffered Core
-runs [] s = s
-runs (c ∷ cs) s = runs cs (execute (c .0) (c .1) s)
+runs cs = run exec (map (λ (c : ℕ × List ℕ). command (c .0) (c .1)) cs)
 
 -- 23h with X = x, Y = Z = 0
 abbrev vertex : ℕ → ℕ × List ℕ
@@ -174,7 +173,8 @@ callRows =
     ∷ row (portReply atStart (write 0x0400_0400 2)) (reply 5 atStart)
     ∷ row (portReply (startWhere 1 1 (streamOf 0 1 false 0x23)) (write 0x0400_0440 2))
     (reply 6 (startWhere 1 1 (streamOf 0 1 false 0x23)))
-    -- of the order of a word's numbers: 1, 2, 4, 3 on a record that earns them all; 3 only where a command word is due
+    -- of the order of a word's numbers, 1, 2, 4, 3: each record earns its number and those after it; 3 only where a
+    -- command word is due
     ∷ row (map (λ (m : Machine (Buffered Core)). wordReply m 0x0011_0015 .number)
     (noBuffers (startWhere 1 1 (streamOf 0 2 false 0x23)) ∷ noBuffers (startWhere 1 1 (streamOf 0 1 false 0x23))
     ∷ startWhere 1 1 (streamOf 0 1 false 0x23) ∷ atStart ∷ startWhere 1 1 (streamOf 0x10 0 false 0) ∷ []))

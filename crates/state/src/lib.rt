@@ -110,10 +110,10 @@ pub struct Core {
     pub stacks: Stacks,
 }
 
-// The command stream between two calls. `queue` is the rest of the packed command word, its next command lowest; `held`
-// has the parameters so far of that command, or of the port command that is pending: the first `count` of 32. Those
-// past the count are free: nothing reads them. `dummy`: the dummy word is due; `port`: the port command that is
-// pending, 0 for none.
+// The command stream between two calls. `queue` is the rest of the packed command word, its next command lowest; bytes
+// above its last command are free. `held` has the parameters so far of that command, or of the port command that is
+// pending: the first `count` of 32. Those past the count are free: no call reads what another left there. `dummy`: the
+// dummy word is due; `port`: the port command that is pending, 0 for none.
 pub struct Stream {
     pub queue: u32,
     pub held: [u32; 32],
@@ -271,7 +271,7 @@ impl Engine {
     }
 }
 
-// What a call that lends no buffer answers: its place is 0.
+// An answer whose place is 0.
 pub fn answered(number: u32, engine: Engine) -> Answer
     ensures { λ r. ⌜ r ≡ answered number engine ⌝ }
 {

@@ -15,7 +15,8 @@ use Rattle.stream.specs.Step.{refused, accepted, heldWith, portParameter, portS
 use Rattle.stream.proofs.CommandLaws.{count-takes-some}
 use Rattle.state.specs.declared.Stream.{Stream}
 use Rattle.state.specs.Sound.{pendingOf}
-use Rattle.steps.specs.Outcome.{outcome, completedOf, stepOf, idleStream, LacksAt}
+use Rattle.steps.specs.Outcome.{outcome, completedOf, stepOf}
+use Rattle.steps.specs.Inside.{idleStream, LacksAt}
 use Rattle.steps.proofs.Packed.{commands-of-zero, idle-pending, held-more, length-more}
 
 -- ---- the definition
@@ -44,7 +45,7 @@ module _ (s : Stream) (a v : ℕ) where
 
 -- ---- a write that is taken
 
-pub port-outcome : (c : ℕ) (held : List ℕ) → c < 256
+port-outcome : (c : ℕ) (held : List ℕ) → c < 256
     → stepOf (outcome 0 (idleStream held) c 1) ≡ accepted idle (command c (take (count c) held) ∷ [])
 unfolding stepOf completedOf
 port-outcome c held h = let e : c % 256 ≡ c = omega arith in rw (e, idle-pending held)

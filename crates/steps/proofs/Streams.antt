@@ -13,7 +13,7 @@ use Rattle.stream.proofs.PendingLaws.{streamTest, known-not-zero, none-for-zero
 use Rattle.state.specs.declared.Stream.{Stream}
 use Rattle.state.specs.Sound.{soundStream}
 use Rattle.state.proofs.StreamTest.{stream-sound}
-use Rattle.steps.specs.Outcome.{Lacks, LacksAt}
+use Rattle.steps.specs.Inside.{Lacks, LacksAt}
 
 first-byte : (w : ℕ) → getD (commandBytes w) 0 0 ≡ counted (w % 256)
 unfolding commandBytes
@@ -55,7 +55,7 @@ module _ (s : Stream) (long : length (s .held) ≡ 32) (e : soundStream s ≡ tr
       record { is-known = k; no-hole = no-hole; fewer = ltb-true (s .count) (count b) few }
 
   -- and so does the port's
-  pub lacks-at-port : known (s .queue % 256) ≡ false → (s .port ≡ 0 → ⊥) → s .count < count (s .port)
+  lacks-at-port : known (s .queue % 256) ≡ false → (s .port ≡ 0 → ⊥) → s .count < count (s .port)
   lacks-at-port k p =
       let few : ltb (s .count) (count (s .port)) ≡ true =
       rw (counted-unknown (s .queue % 256) k, ne-eqb (s .port) 0 p, or-false (ltb (s .count) (count (s .port))))
@@ -63,7 +63,7 @@ module _ (s : Stream) (long : length (s .held) ≡ 32) (e : soundStream s ≡ tr
       ltb-true (s .count) (count (s .port)) few
 
   -- with nothing pending, none are held
-  pub none-held : known (s .queue % 256) ≡ false → s .port ≡ 0 → s .count ≡ 0
+  none-held : known (s .queue % 256) ≡ false → s .port ≡ 0 → s .count ≡ 0
   none-held k p =
       let none : eqb (s .count) 0 ≡ true =
       rw (counted-unknown (s .queue % 256) k, p, none-for-zero, le-ltb (s .count) 0 (omega arith)) at (told .few) in

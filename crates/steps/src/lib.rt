@@ -2,18 +2,19 @@
 // completes. Document 01, "Commands and their parameters". The engine runs the commands, the unpacker writes them down.
 ghost use mathlib.Core.Path.{_≡_};
 ghost use mathlib.Core.Bool.{true, false, _&&_};
-ghost use mathlib.Core.List.{List, _++_, _∷_, []};
-ghost use Prim.Native.Nat.{ℕ, _<_, _%_, _/_};
+ghost use mathlib.Core.List.{_++_, _∷_, []};
+ghost use Prim.Native.Nat.{_<_, _%_, _/_};
 ghost use lib.ListN.{take};
 ghost use Rattle.words.specs.Words.{bytes};
 ghost use Rattle.commands.specs.Commands.{known, count, hole, commandBytes, parameterTable};
 ghost use Rattle.stream.specs.Pending.{packedPending, commandsOf};
 ghost use Rattle.stream.specs.Command.{takesNone, write};
-ghost use Rattle.stream.specs.Step.{atOnce, afterThem, commandWord, parameterWord, wordStep, heldWith, portParameter};
+ghost use Rattle.stream.specs.Step.{pendingBehind, commandWord, parameterWord, wordStep, heldWith, portParameter};
 ghost use Rattle.stream.specs.Step.{portStep};
 ghost use Rattle.state.specs.Sound.{pendingOf, soundStream};
-ghost use Rattle.steps.specs.Outcome.{outcome, stepOf, idleStream, RunAtOnce, pendingRest, streamAfter};
-ghost use Rattle.steps.specs.Outcome.{Lacks, LacksAt};
+ghost use Rattle.steps.specs.Outcome.{outcome, stepOf};
+ghost use Rattle.steps.specs.Inside.{idleStream, RunAtOnce, pendingRest, streamAfter};
+ghost use Rattle.steps.specs.Inside.{Lacks, LacksAt};
 use commands::Count;
 use commands::command_at_in;
 use commands::command_bytes_in;
@@ -25,7 +26,8 @@ use state::Stream;
 
 // What a word or a port write does. `number` is 0 where it is taken, else the number that it is refused with. Taken, it
 // leaves `stream` and completes commands: the lowest `completed` bytes of `commands`, which run from the lowest on.
-// Each has the first parameters of `stream.held`, as many as it takes.
+// Each has the first parameters of `stream.held`, as many as it takes; they stand there past the stream's count. Of a
+// refusal only the number counts: the other fields are free.
 pub struct Outcome {
     pub number: u32,
     pub stream: Stream,
@@ -82,7 +84,7 @@ fn at_once(table: &[u8; 256], queue: u32) -> Front
     requires { ⌜ now table ≡ parameterTable ⌝ }
     requires { ⌜ hole (commandBytes queue) ≡ false ⌝ }
     ensures { λ r. ⌜ RunAtOnce (r .count) queue ⌝ }
-    ensures { λ r. ⌜ pendingRest (r .rest) (r .dummy) ≡ afterThem false (commandsOf queue) ⌝ }
+    ensures { λ r. ⌜ pendingRest (r .rest) (r .dummy) ≡ pendingBehind false (commandsOf queue) ⌝ }
 {
     let mut q = queue;
     let mut n: usize = 0;

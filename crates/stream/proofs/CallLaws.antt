@@ -16,42 +16,40 @@ run-append : {State : Type 0} (exec : Command → State → State) (cs ds : List
 run-append exec [] ds s = refl
 run-append exec (c ∷ cs) ds s = run-append exec cs ds (exec c s)
 
--- what every command keeps, a call keeps, and the stream stays sound; whatever number the call answers
-module _ {State : Type 0} (exec : Command → State → State) (Keeping : State → Type 0)
-    (keeps : (c : Command) (s : State) → Complete c → Keeping s → Keeping (exec c s)) where
-  pub run-keeps : (cs : List Command) (s : State) → AllComplete cs → Keeping s → Keeping (run exec cs s)
+-- P holds of the engine, and what is pending is sound
+abbrev pub Keeping : {State : Type 0} → (State → Type 0) → Machine State → Type 0
+Keeping P m = P (m .state) × (soundPending (m .pending) ≡ true)
+
+-- what every command keeps, a call keeps, and what is pending stays sound; whatever number the call answers
+module _ {State : Type 0} (exec : Command → State → State) (P : State → Type 0)
+    (keeps : (c : Command) (s : State) → Complete c → P s → P (exec c s)) where
+  pub run-keeps : (cs : List Command) (s : State) → AllComplete cs → P s → P (run exec cs s)
   run-keeps [] s w k = k
   run-keeps (c ∷ cs) s w k = run-keeps cs (exec c s) (w .1) (keeps c s (w .0) k)
 
-  abbrev pub KeepingMachine : Machine State → Type 0
-  KeepingMachine m = Keeping (m .state) × (soundPending (m .pending) ≡ true)
-
   pub call-keeps : (sound longEnough : State → Bool) {A : Type 0} (step : Pending → A → Step)
       → ((p : Pending) (a : A) → soundPending p ≡ true → KeepsSound (step p a))
-      → (m : Machine State) (a : A) → KeepingMachine m
-      → KeepingMachine (callBy exec sound longEnough step m a .left)
+      → (m : Machine State) (a : A) → Keeping P m
+      → Keeping P (callBy exec sound longEnough step m a .left)
   unfolding callBy
   call-keeps sound longEnough step step-keeps m a k =
       by (sound (m .state) && soundPending (m .pending)) (longEnough (m .state)) (step (m .pending) a)
       (step-keeps (m .pending) a (k .1))
     where
       by : (t l : Bool) (x : Step) → KeepsSound x
-          → KeepingMachine (cond t (cond l (afterStep exec m x) (reply 2 m)) (reply 1 m) .left)
+          → Keeping P (cond t (cond l (afterStep exec m x) (reply 2 m)) (reply 1 m) .left)
       by false l x g = k
       by true false x g = k
       by true true (refused n) g = k
       by true true (accepted p cs) g = (run-keeps cs (m .state) (g .1) (k .0), g .0)
 
 module _ {State : Type 0} (exec : Command → State → State) (sound longEnough : State → Bool)
-    (keeps : (c : Command) (s : State) → Complete c → Usable exec sound longEnough s
-    → Usable exec sound longEnough (exec c s))
+    (keeps : (c : Command) (s : State) → Complete c → Usable sound longEnough s
+    → Usable sound longEnough (exec c s))
     {A : Type 0} (step : Pending → A → Step)
     (step-keeps : (p : Pending) (a : A) → soundPending p ≡ true → KeepsSound (step p a)) where
-  abbrev UsableMachine : Machine State → Type 0
-  UsableMachine m = Usable exec sound longEnough (m .state) × (soundPending (m .pending) ≡ true)
-
   taken-call : (p q : Pending) (a : A) (cs : List Command) (s : State) → step p a ≡ accepted q cs
-      → UsableMachine (machine s p)
+      → Keeping (Usable sound longEnough) (machine s p)
       → callBy exec sound longEnough step (machine s p) a ≡ reply 0 (machine (run exec cs s) q)
   unfolding callBy
   taken-call p q a cs s e u = rw (u .0 .is-sound, u .1, u .0 .is-long-enough, e)
@@ -61,12 +59,12 @@ module _ {State : Type 0} (exec : Command → State → State) (sound longEnough
     pub end : after (callBy exec sound longEnough step) (machine s p) l ≡ machine (run exec cs s) u
 
   pub simulated : {p u : Pending} {l : List A} {cs : List Command} → Reads (Moves step) p l cs u → (s : State)
-      → UsableMachine (machine s p) → Simulated p l cs u s
+      → Keeping (Usable sound longEnough) (machine s p) → Simulated p l cs u s
   simulated none s f = record { all-taken = tt; end = refl }
   simulated (one {s = p} {t = q} {a = a} {cs = cs} {ds = ds} e r) s f =
       let g : KeepsSound (accepted q cs) = subst KeepsSound e (step-keeps p a (f .1)) in
       let c = taken-call p q a cs s e f in
-      let usable = run-keeps exec (Usable exec sound longEnough) keeps cs s (g .1) (f .0) in
+      let usable = run-keeps exec (Usable sound longEnough) keeps cs s (g .1) (f .0) in
       let rest = simulated r (run exec cs s) (usable, g .0) in
       record {
         all-taken = (ap (λ (x : Reply State). x .number) c, rw c (rest .all-taken));

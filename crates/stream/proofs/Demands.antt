@@ -94,10 +94,10 @@ length-from-log l cs e r =
     rw e (length-packed cs ∙ ap (λ (n : ℕ). n + length (groups cs) + groupsWithDummy (groups cs)) (sym n))
 
 module _ {State : Type 0} (exec : Command → State → State) (sound longEnough : State → Bool)
-    (keeps : (c : Command) (s : State) → Complete c → Usable exec sound longEnough s
-    → Usable exec sound longEnough (exec c s)) where
+    (keeps : (c : Command) (s : State) → Complete c → Usable sound longEnough s
+    → Usable sound longEnough (exec c s)) where
   from-idle : (capacity : ℕ) (log : List ℕ) (s : State) → pack capacity log .number ≡ 0
-      → Usable exec sound longEnough s → Demand3 exec sound longEnough capacity log (machine s idle)
+      → Usable sound longEnough s → Demand3 exec sound longEnough capacity log (machine s idle)
   from-idle capacity log s a f =
       let p = pack-accepted capacity log a in
       let r = log-read (writes log) (p .cs) (p .read) in
@@ -155,7 +155,7 @@ demand2 capacity back log a h =
 
 -- ---- the bound
 
--- a log of n writes is packed into at most n and a quarter words
+-- a log of n writes is packed into at most n words and a quarter of n, rounded up
 pub bound : (l : List Write) (cs : List Command) → logCommands l ≡ commands cs
     → length (packedWords cs) ≤ length l + (length l + 3) / 4
 bound l cs e = let r = log-read l cs e in words-bound l cs (r .all-complete) (r .are-writes)

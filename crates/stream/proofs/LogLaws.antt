@@ -50,10 +50,10 @@ module _ (s : Pending) (w : Write) (c : ℕ) (e : commandAt (w .address) ≡ c) 
   zeroed-write : (t : Bool) → takesNone c ≡ t → zeroedWrite w ≡ write (port c) (cond t 0 (w .value))
   zeroed-write t n = rw (e, n, o .is-port)
 
-  held-more : takesNone c ≡ false → (l : List Write)
+  more-held : takesNone c ≡ false → (l : List Write)
       → heldWrites s ++ (zeroedWrite w ∷ l) ≡ writesTo (port c) (s .held ++ w .value ∷ []) ++ l
   unfolding heldWrites
-  held-more n l = rw (same, zeroed-write false n) (sym (writes-snoc (port c) (s .held) (w .value) l))
+  more-held n l = rw (same, zeroed-write false n) (sym (writes-snoc (port c) (s .held) (w .value) l))
 
   held-none : takesNone c ≡ true → s .held ≡ [] → (l : List Write)
       → heldWrites s ++ (zeroedWrite w ∷ l) ≡ write (port c) 0 ∷ l
@@ -65,10 +65,10 @@ module _ (s : Pending) (w : Write) (c : ℕ) (e : commandAt (w .address) ≡ c) 
       (cond t (accepted (portPending c (s .held ++ w .value ∷ [])) [])
       (accepted idle (command c (s .held ++ w .value ∷ []) ∷ [])))
   unfolding WritesKept heldWrites commandWrites
-  parameter-kept n true = (refl, λ l ds q. held-more n l ∙ q)
+  parameter-kept n true = (refl, λ l ds q. more-held n l ∙ q)
   parameter-kept n false =
       let k : List ℕ = s .held ++ w .value ∷ [] in
-      (refl, λ l ds q. held-more n l ∙ rw n (ap (λ (r : List Write). writesTo (port c) k ++ r) q))
+      (refl, λ l ds q. more-held n l ∙ rw n (ap (λ (r : List Write). writesTo (port c) k ++ r) q))
 
   none-kept : takesNone c ≡ true → s .held ≡ [] → WritesKept s w (accepted idle (command c [] ∷ []))
   unfolding WritesKept heldWrites commandWrites
@@ -100,10 +100,10 @@ same-port-kept w c p h true e o q f =
     (λ n. absurd (omega (arith, takes-none-count c n, ap count pc)))
 same-port-kept w c p h false e o q f = tt
 
-port-kept : (s : Pending) (w : Write) → soundPending s ≡ true → packedPending s ≡ false
+port-writes-kept : (s : Pending) (w : Write) → soundPending s ≡ true → packedPending s ≡ false
     → WritesKept s w (portStep s w)
 unfolding WritesKept portStep
-port-kept s w e =
+port-writes-kept s w e =
     let c = commandAt (w .address) in
     by c (eqb c 0) refl (λ n. port-of-command (w .address) (eqb-false c 0 n))
     (s .queue) (s .port) (s .dummy) (s .held) (sym (sound-shape s) ∙ e)
@@ -129,7 +129,7 @@ unfolding WritesKept heldWrites
 writes-behind (none {s = s}) e b f = rw (sound-idle s e f)
 writes-behind (one {s = s} {t = t} {a = w} {l = l} {cs = cs} {ds = ds} p r) e b f =
     let g : KeepsSound (accepted t cs) = subst KeepsSound p (port-keeps s w e) in
-    let k : WritesKept s w (accepted t cs) = subst (WritesKept s w) p (port-kept s w e b) in
+    let k : WritesKept s w (accepted t cs) = subst (WritesKept s w) p (port-writes-kept s w e b) in
     k .1 (zeroed l) ds (writes-behind r (g .0) (k .0) f)
 
 -- the log is the writes of its commands

@@ -12,7 +12,7 @@ use Rattle.commands.proofs.Table.{known-range}
 use Rattle.commands.proofs.Commands.{counted-known, counted-unknown}
 use Rattle.stream.specs.Pending.{Pending, idle, dummyDue, queued, upToLast, commandsOf, allKnown}
 use Rattle.stream.specs.Command.{takesNone, Command, command}
-use Rattle.stream.specs.Step.{accepted, atOnce, afterThem, commandWord, parameterWord, wordStep}
+use Rattle.stream.specs.Step.{accepted, atOnce, pendingBehind, commandWord, parameterWord, wordStep}
 use Rattle.stream.specs.Pack.{groups, queueOf, parametersOf, endsWithNone, dummyIf, groupWords, allWords}
 use Rattle.stream.specs.Pack.{packedWords, countIf, groupsWithDummy}
 use Rattle.stream.proofs.PendingLaws.{unknown-zero, known-not-zero, hole-above}
@@ -58,7 +58,7 @@ word-commands (suc n) (c ∷ q) m k =
     (rw high (word-commands n q (omega arith) (k2 .1)))
 
 -- the commands of the command word of a queue
-pub queue-word : (q : List ℕ) → length q ≤ 4 → allKnown q ≡ true
+queue-word : (q : List ℕ) → length q ≤ 4 → allKnown q ≡ true
     → (commandsOf (wordOf q) ≡ q) × (hole (commandBytes (wordOf q)) ≡ false)
 unfolding commandsOf commandBytes
 queue-word q m k = let f = word-commands 4 q m k in (f .are, f .no-hole)
@@ -74,7 +74,7 @@ length-queue (c ∷ g) = ap suc (length-queue g)
 -- ---- what a step does with a packed word
 
 command-word-read : (g : List Command) → AllComplete g → length g ≤ 4
-    → wordStep idle (wordOf (queueOf g)) ≡ accepted (afterThem false (queueOf g)) (atOnce (queueOf g))
+    → wordStep idle (wordOf (queueOf g)) ≡ accepted (pendingBehind false (queueOf g)) (atOnce (queueOf g))
 unfolding wordStep commandWord
 command-word-read g w m =
     let f = queue-word (queueOf g) (omega (arith, length-queue g)) (queue-known g w) in
@@ -87,7 +87,7 @@ unfolding wordStep parameterWord
 parameter-read c q h p m = rw (lt-ltb (length (h ++ p ∷ [])) (count c) (omega (arith, length-snoc h p)))
 
 last-parameter-read : (c : ℕ) (q h : List ℕ) (p : ℕ) → length h + 1 ≡ count c
-    → wordStep (queued (c ∷ q) h) p ≡ accepted (afterThem false q) (command c (h ++ p ∷ []) ∷ atOnce q)
+    → wordStep (queued (c ∷ q) h) p ≡ accepted (pendingBehind false q) (command c (h ++ p ∷ []) ∷ atOnce q)
 unfolding wordStep parameterWord
 last-parameter-read c q h p m = rw (le-ltb (length (h ++ p ∷ [])) (count c) (omega (arith, length-snoc h p)))
 
@@ -96,11 +96,11 @@ last-parameter-read c q h p m = rw (le-ltb (length (h ++ p ∷ [])) (count c) (o
 -- `Moves wordStep`; another may say more of a word that is packed than the step says of any word.
 pub record WordKinds (R : Pending → ℕ → Pending → List Command → Type 0) : Type 0 where
   pub command-word : (g : List Command) → AllComplete g → 1 ≤ length g → length g ≤ 4
-      → R idle (wordOf (queueOf g)) (afterThem false (queueOf g)) (atOnce (queueOf g))
+      → R idle (wordOf (queueOf g)) (pendingBehind false (queueOf g)) (atOnce (queueOf g))
   pub parameter : (c : ℕ) (q h : List ℕ) (p : ℕ) → length h + 1 < count c
       → R (queued (c ∷ q) h) p (queued (c ∷ q) (h ++ p ∷ [])) []
   pub last-parameter : (c : ℕ) (q h : List ℕ) (p : ℕ) → length h + 1 ≡ count c → length q ≤ 3 → allKnown (c ∷ q) ≡ true
-      → R (queued (c ∷ q) h) p (afterThem false q) (command c (h ++ p ∷ []) ∷ atOnce q)
+      → R (queued (c ∷ q) h) p (pendingBehind false q) (command c (h ++ p ∷ []) ∷ atOnce q)
   pub dummy-word : (w : ℕ) → R (dummyDue true) w idle []
 
 pub word-moves : WordKinds (Moves wordStep)
@@ -137,12 +137,12 @@ module _ (R : Pending → ℕ → Pending → List Command → Type 0) (kinds : 
   -- the parameters of the first queued command, behind those that are held
   read-parameters : (c : ℕ) (q h : List ℕ) (p : ℕ) (ps : List ℕ) → length h + length (p ∷ ps) ≡ count c → length q ≤ 3
       → allKnown (c ∷ q) ≡ true
-      → Reads R (queued (c ∷ q) h) (p ∷ ps) (command c (h ++ p ∷ ps) ∷ atOnce q) (afterThem false q)
+      → Reads R (queued (c ∷ q) h) (p ∷ ps) (command c (h ++ p ∷ ps) ∷ atOnce q) (pendingBehind false q)
   read-parameters c q h p [] e m k = single R (kinds .last-parameter c q h p (omega arith) m k)
   read-parameters c q h p (x ∷ ps) e m k =
       one (kinds .parameter c q h p (omega arith))
       (subst
-      (λ (l : List ℕ). Reads R (queued (c ∷ q) (h ++ p ∷ [])) (x ∷ ps) (command c l ∷ atOnce q) (afterThem false q))
+      (λ (l : List ℕ). Reads R (queued (c ∷ q) (h ++ p ∷ [])) (x ∷ ps) (command c l ∷ atOnce q) (pendingBehind false q))
       (append-assoc h (p ∷ []) (x ∷ ps))
       (read-parameters c q (h ++ p ∷ []) x ps (omega (arith, length-snoc h p)) m k))
 
@@ -156,8 +156,8 @@ module _ (R : Pending → ℕ → Pending → List Command → Type 0) (kinds : 
   rest-cons : (g : List Command) (c : ℕ) (ps : List ℕ) (t : Bool) → takesNone c ≡ t → length ps ≡ count c
       → length g ≤ 3 → allKnown (c ∷ queueOf g) ≡ true
       → ((b : Bool)
-      → Rest (afterThem b (queueOf g)) (atOnce (queueOf g)) (parametersOf g ++ dummyIf (endsWithNone b g)) g)
-      → Rest (cond t (afterThem true (queueOf g)) (queued (c ∷ queueOf g) []))
+      → Rest (pendingBehind b (queueOf g)) (atOnce (queueOf g)) (parametersOf g ++ dummyIf (endsWithNone b g)) g)
+      → Rest (cond t (pendingBehind true (queueOf g)) (queued (c ∷ queueOf g) []))
       (cond t (command c [] ∷ atOnce (queueOf g)) [])
       ((ps ++ parametersOf g) ++ dummyIf (endsWithNone t g)) (command c ps ∷ g)
   rest-cons g c [] true e n m k behind =
@@ -180,7 +180,7 @@ module _ (R : Pending → ℕ → Pending → List Command → Type 0) (kinds : 
       }
 
   read-rest : (b : Bool) (g : List Command) → AllComplete g → length g ≤ 4
-      → Rest (afterThem b (queueOf g)) (atOnce (queueOf g)) (parametersOf g ++ dummyIf (endsWithNone b g)) g
+      → Rest (pendingBehind b (queueOf g)) (atOnce (queueOf g)) (parametersOf g ++ dummyIf (endsWithNone b g)) g
   read-rest true [] w m = record { rest = []; split = refl; reads = single R (kinds .dummy-word 0) }
   read-rest false [] w m = record { rest = []; split = refl; reads = none }
   read-rest b (c ∷ g) w m =

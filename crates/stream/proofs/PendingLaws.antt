@@ -93,17 +93,17 @@ module _ (b : ℕ) (bs held : List ℕ) (dummy : Bool) (port : ℕ) where
   with-hole a h =
       rw (h, all-known (b ∷ bs) a ∙ ap not h, and-false (leb (length (upToLast (b ∷ bs))) 4)) refl
 
-  -- a command is queued
-  queued : known b ≡ true → AllCounted bs → length bs ≡ 3 → hole (b ∷ bs) ≡ false → Agree
+  -- a command is with-queue
+  with-queue : known b ≡ true → AllCounted bs → length bs ≡ 3 → hole (b ∷ bs) ≡ false → Agree
   unfolding soundPending
-  queued k rest l h =
+  with-queue k rest l h =
       let z = known-not-zero b k in
       let few = up-to-last-short bs in
       let q : hole bs ≡ false = sym (hole-above b bs k) ∙ h in
       let fits : leb (suc (length (upToLast bs))) 4 ≡ true = le-leb (suc (length (upToLast bs))) 4 (omega arith) in
       simp (h, z, fits, k, all-known bs rest ∙ ap not q, or-false (ltb (length held) (count b)))
 
--- nothing is queued
+-- nothing is with-queue
 none-queued : (bs held : List ℕ) (dummy : Bool) (port : ℕ) → anyCommand bs ≡ false → Agree 0 bs held dummy port
 unfolding soundPending hole
 none-queued bs held dummy zero h = simp (h, none-for-zero, le-ltb (length held) 0 (omega arith), empty-length held)
@@ -119,7 +119,7 @@ agree b bs held dummy port a l = by (hole (b ∷ bs)) refl a
   where
     by : (t : Bool) → hole (b ∷ bs) ≡ t → AllCounted (b ∷ bs) → Agree b bs held dummy port
     by true h a = with-hole b bs held dummy port a h
-    by false h (inr k, rest) = queued b bs held dummy port k rest l h
+    by false h (inr k, rest) = with-queue b bs held dummy port k rest l h
     by false h (inl e, rest) =
         subst (λ (n : ℕ). Agree n bs held dummy port) (sym e)
         (none-queued bs held dummy port (sym (hole-at-zero bs) ∙ ap (λ (n : ℕ). hole (n ∷ bs)) (sym e) ∙ h))

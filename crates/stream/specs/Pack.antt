@@ -29,7 +29,7 @@ abbrev pub parametersOf : List Command → List ℕ
 parametersOf [] = []
 parametersOf (c ∷ cs) = c .parameters ++ parametersOf cs
 
--- the last command takes no parameter; b is said of no command
+-- the last command takes no parameter; b where there is no command
 abbrev pub endsWithNone : Bool → List Command → Bool
 endsWithNone b [] = b
 endsWithNone b (c ∷ cs) = endsWithNone (takesNone (c .byte)) cs

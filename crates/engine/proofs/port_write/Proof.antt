@@ -4,7 +4,7 @@ use lib.ListN.{length}
 use borrow.Author.Needs.{needs}
 use Rattle.stream.specs.Command.{write}
 use Rattle.stream.specs.Step.{portStep}
-use Rattle.engine.specs.Call.{firstNumber}
+use Rattle.engine.specs.Inside.{firstNumber}
 use Rattle.engine.proofs.Calls.{passed, promised-first, promised-step}
 use Rattle.engine.proofs.port_write.Statement.{statement}
 use Rattle.engine.proofs.port_write.Tie as tie

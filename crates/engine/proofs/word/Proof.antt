@@ -3,7 +3,7 @@ use mathlib.Core.Path.{_≡_, sym, _∙_}
 use lib.ListN.{length}
 use borrow.Author.Needs.{needs}
 use Rattle.stream.specs.Step.{wordStep}
-use Rattle.engine.specs.Call.{firstNumber}
+use Rattle.engine.specs.Inside.{firstNumber}
 use Rattle.engine.proofs.Calls.{passed, promised-first, promised-step}
 use Rattle.engine.proofs.word.Statement.{statement}
 use Rattle.engine.proofs.word.Tie as tie
