@@ -113,8 +113,8 @@ fn after_step(e: Engine, step: Outcome, vertices: &mut [i32], polygons: &mut [u3
     )
 }
 
-// One packed word: a command word, a parameter or a dummy. Refused with 1, 2, 4 or 3, in this order; a refused call hands
-// back the engine that it was given and leaves both buffers as they were.
+// One packed word: a command word, a parameter or a dummy. Refused with 1, 2, 4 or 3, in this order; a refused call
+// hands back the engine that it was given and leaves both buffers as they were.
 pub fn word(e: Engine, w: u32, vertices: &mut [i32], polygons: &mut [u32]) -> Answer
     ensures { λ r. ⌜ replyOf r (now (vertices .exit)) (now (polygons .exit))
         ≡ wordReply (machineOf e (now (vertices .entry)) (now (polygons .entry))) w ⌝ }
@@ -130,8 +130,8 @@ pub fn word(e: Engine, w: u32, vertices: &mut [i32], polygons: &mut [u32]) -> An
     after_step(e, step, &mut *vertices, &mut *polygons)
 }
 
-// One port write. Refused with 1, 2, 5, 4 or 6, in this order; a refused call hands back the engine that it was given and
-// leaves both buffers as they were.
+// One port write. Refused with 1, 2, 5, 4 or 6, in this order; a refused call hands back the engine that it was given
+// and leaves both buffers as they were.
 pub fn port_write(
     e: Engine,
     address: u32,
