@@ -173,13 +173,13 @@ callRows =
     ∷ row (portReply atStart (write 0x0400_0400 2)) (reply 5 atStart)
     ∷ row (portReply (startWhere 1 1 (streamOf 0 1 false 0x23)) (write 0x0400_0440 2))
     (reply 6 (startWhere 1 1 (streamOf 0 1 false 0x23)))
-    -- of the order of a word's numbers, 1, 2, 4, 3: each record earns its number and those after it; 3 only where a
-    -- command word is due
+    -- of the order of a word's numbers: 1 where 2 and 4 could be given too, 2 where 4 could, 4; then 3, and 0 for the
+    -- same word where a parameter is due
     ∷ row (map (λ (m : Machine (Buffered Core)). wordReply m 0x0011_0015 .number)
     (noBuffers (startWhere 1 1 (streamOf 0 2 false 0x23)) ∷ noBuffers (startWhere 1 1 (streamOf 0 1 false 0x23))
     ∷ startWhere 1 1 (streamOf 0 1 false 0x23) ∷ atStart ∷ startWhere 1 1 (streamOf 0x10 0 false 0) ∷ []))
     (1 ∷ 2 ∷ 4 ∷ 3 ∷ 0 ∷ [])
-    -- of the order of a port write's: 1, 2, 5, 4 with a packed word unfinished
+    -- of the order of a port write's: 1 where 2, 5 and 4 could be given too, 2 where 5 and 4 could, 5 where 4 could; 4
     ∷ row (map (λ (m : Machine (Buffered Core)). portReply m (write 0x0400_0400 2) .number)
     (noBuffers (startWhere 1 1 (streamOf 0x10 1 false 0)) ∷ noBuffers (startWhere 1 1 (streamOf 0x10 0 false 0))
     ∷ startWhere 1 1 (streamOf 0x10 0 false 0) ∷ []))

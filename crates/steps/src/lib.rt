@@ -3,10 +3,9 @@
 ghost use mathlib.Core.Path.{_≡_};
 ghost use mathlib.Core.Bool.{true, false, _&&_};
 ghost use mathlib.Core.List.{_++_, _∷_, []};
-ghost use Prim.Native.Nat.{_<_, _%_, _/_};
+ghost use Prim.Native.Nat.{_%_, _/_};
 ghost use lib.ListN.{take};
-ghost use Rattle.words.specs.Words.{bytes};
-ghost use Rattle.commands.specs.Commands.{known, count, hole, commandBytes, parameterTable};
+ghost use Rattle.commands.specs.Commands.{known, hole, commandBytes, parameterTable};
 ghost use Rattle.stream.specs.Pending.{packedPending, commandsOf};
 ghost use Rattle.stream.specs.Command.{takesNone, write};
 ghost use Rattle.stream.specs.Step.{pendingBehind, commandWord, parameterWord, wordStep, heldWith, portParameter};
