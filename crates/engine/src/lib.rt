@@ -6,12 +6,12 @@ ghost use Rattle.words.specs.Words.{bytes};
 ghost use Rattle.commands.specs.Commands.{parameterTable};
 ghost use Rattle.stream.specs.Command.{write};
 ghost use Rattle.stream.specs.Call.{run, afterStep};
-ghost use Rattle.state.specs.Sound.{soundCore};
+ghost use Rattle.state.specs.Sound.{soundCore, pendingOf, soundStream};
 ghost use Rattle.polygons.specs.Buffers.{buffered};
 ghost use Rattle.execute.specs.Execute.{buffersLong};
 ghost use Rattle.steps.specs.Outcome.{commandsWith, stepOf};
 ghost use Rattle.engine.specs.Call.{exec, machineOf, replyOf, GivenBack, wordReply, portReply};
-ghost use Rattle.engine.specs.Inside.{firstNumber};
+ghost use Rattle.engine.specs.Inside.{firstNumber, inputStep, inputReply};
 use commands::parameter_table;
 use execute::Operation;
 use execute::operation_of;
@@ -21,6 +21,7 @@ use polygons::is_long_enough;
 use state::Answer;
 use state::Core;
 use state::Engine;
+use state::Stream;
 use state::answered;
 use state::is_sound_in;
 use steps::Outcome;
@@ -113,11 +114,28 @@ fn after_step(e: Engine, step: Outcome, vertices: &mut [i32], polygons: &mut [u3
     )
 }
 
-// One packed word: a command word, a parameter or a dummy. Refused with 1, 2, 4 or 3, in this order; a refused call
-// hands back the engine that it was given and leaves both buffers as they were.
-pub fn word(e: Engine, w: u32, vertices: &mut [i32], polygons: &mut [u32]) -> Answer
+// What a call is given: a packed word, or a port write's address and value.
+enum Input {
+    Word(u32),
+    PortWrite(u32, u32),
+}
+
+// What the input does to the stream.
+fn step_of(table: &[u8; 256], s: Stream, input: Input) -> Outcome
+    requires { ⌜ now table ≡ parameterTable ⌝ }
+    requires { ⌜ soundStream s ≡ true ⌝ }
+    ensures { λ r. ⌜ stepOf r ≡ inputStep (pendingOf s) input ⌝ }
+{
+    match input {
+        Input::Word(w) => word_step(table, s, w),
+        Input::PortWrite(address, value) => port_step(table, s, address, value),
+    }
+}
+
+// A call: numbers 1 and 2, then the step and what it completes.
+fn call(e: Engine, input: Input, vertices: &mut [i32], polygons: &mut [u32]) -> Answer
     ensures { λ r. ⌜ replyOf r (now (vertices .exit)) (now (polygons .exit))
-        ≡ wordReply (machineOf e (now (vertices .entry)) (now (polygons .entry))) w ⌝ }
+        ≡ inputReply (machineOf e (now (vertices .entry)) (now (polygons .entry))) input ⌝ }
     ensures { λ r. ⌜ GivenBack e r ⌝ }
 {
     let table = parameter_table();
@@ -126,8 +144,18 @@ pub fn word(e: Engine, w: u32, vertices: &mut [i32], polygons: &mut [u32]) -> An
         return answered(number, e);
     }
     let stream = e.stream;
-    let step = word_step(&table, stream, w);
+    let step = step_of(&table, stream, input);
     after_step(e, step, &mut *vertices, &mut *polygons)
+}
+
+// One packed word: a command word, a parameter or a dummy. Refused with 1, 2, 4 or 3, in this order; a refused call
+// hands back the engine that it was given and leaves both buffers as they were.
+pub fn word(e: Engine, w: u32, vertices: &mut [i32], polygons: &mut [u32]) -> Answer
+    ensures { λ r. ⌜ replyOf r (now (vertices .exit)) (now (polygons .exit))
+        ≡ wordReply (machineOf e (now (vertices .entry)) (now (polygons .entry))) w ⌝ }
+    ensures { λ r. ⌜ GivenBack e r ⌝ }
+{
+    call(e, Input::Word(w), &mut *vertices, &mut *polygons)
 }
 
 // One port write. Refused with 1, 2, 5, 4 or 6, in this order; a refused call hands back the engine that it was given
@@ -143,12 +171,10 @@ pub fn port_write(
         ≡ portReply (machineOf e (now (vertices .entry)) (now (polygons .entry))) (write address value) ⌝ }
     ensures { λ r. ⌜ GivenBack e r ⌝ }
 {
-    let table = parameter_table();
-    let number = first_number(&table, e, vertices.len(), polygons.len());
-    if number != 0 {
-        return answered(number, e);
-    }
-    let stream = e.stream;
-    let step = port_step(&table, stream, address, value);
-    after_step(e, step, &mut *vertices, &mut *polygons)
+    call(
+        e,
+        Input::PortWrite(address, value),
+        &mut *vertices,
+        &mut *polygons,
+    )
 }
