@@ -11,15 +11,16 @@ use Rattle.stream.specs.Pending.{Pending, idle, isPending}
 use Rattle.stream.specs.Command.{Command, Complete, Write}
 use Rattle.stream.specs.Step.{wordStep, portStep}
 use Rattle.stream.specs.Read.{Read, stopped, commands, writes, logCommands, listCommands}
-use Rattle.stream.specs.Pack.{groups, packedWords, groupsWithDummy, packedLength, Output, refusal, fitted, onRead}
-use Rattle.stream.specs.Pack.{packCommands, isOdd, pack}
-use Rattle.stream.specs.Unpack.{allWrites, logOf, unpack, zeroed}
+use Rattle.stream.specs.Output.{Output, refusal, fitted, onRead}
+use Rattle.stream.specs.Pack.{groups, packedWords, groupsWithDummy, packedLength, packCommands, isOdd, pack}
+use Rattle.stream.specs.Unpack.{allWrites, logOf, commandsLog, unpackFrom, unpack, zeroed}
 use Rattle.stream.specs.Call.{Machine, machine}
 use Rattle.stream.specs.Demand3.{Usable, Demand3, Demand3Holds}
 use Rattle.stream.proofs.StepLaws.{idle-sound, sound-idle, AllComplete, word-keeps, port-keeps}
 use Rattle.stream.proofs.ReadLaws.{Reads, Moves, reads-scan, scan-reads, reads-complete, stopped-number}
 use Rattle.stream.proofs.CallLaws.{simulated}
 use Rattle.stream.proofs.PackLaws.{word-moves, read-words, length-packed}
+use Rattle.stream.proofs.UnpackLaws.{length-log}
 use Rattle.stream.proofs.LogLaws.{zeroed-writes, length-zeroed, log-parameters, words-bound}
 
 -- ---- a log that is read, and one that the packer accepts
@@ -120,10 +121,6 @@ module _ {State : Type 0} (exec : Command → State → State) (sound longEnough
 
 -- ---- demand 2, the round trip
 
-length-log : (l : List Write) → length (logOf l) ≡ 2 * length l
-length-log [] = refl
-length-log (w ∷ l) = omega (arith, length-log l)
-
 length-writes : (log : List ℕ) → 2 * length (writes log) ≤ length log
 length-writes [] = omega arith
 length-writes (a ∷ []) = omega arith
@@ -132,7 +129,7 @@ length-writes (a ∷ v ∷ l) = omega (arith, length-writes l)
 pub demand2 : (capacity back : ℕ) (log : List ℕ) → pack capacity log .number ≡ 0 → length log ≤ back
     → unpack back (pack capacity log .words)
     ≡ record { number = 0; place = 0; words = logOf (zeroed (writes log)) }
-unfolding unpack listCommands
+unfolding unpackFrom listCommands commandsLog
 demand2 capacity back log a h =
     let p = pack-accepted capacity log a in
     let r = log-read (writes log) (p .cs) (p .read) in

@@ -5,5 +5,6 @@ pub mod StepLaws
 pub mod ReadLaws
 pub mod CallLaws
 pub mod PackLaws
+pub mod UnpackLaws
 pub mod LogLaws
 pub mod Demands

@@ -5,7 +5,7 @@ use mathlib.Core.List.{List, [], _∷_, _++_, append-assoc, append-nil}
 use mathlib.Core.Path.{_≡_, refl, sym, ap, subst}
 use Prim.Native.Nat.{ℕ, suc, _≤_}
 use native.Mathlib.Omega.{arith}
-use Rattle.stream.specs.Pending.{Pending, isPending, soundPending}
+use Rattle.stream.specs.Pending.{Pending, idle, isPending, soundPending}
 use Rattle.stream.specs.Command.{Command}
 use Rattle.stream.specs.Step.{Step, refused, accepted, caseStep}
 use Rattle.stream.specs.Read.{Read, stopped, commands, prepend, scan}
@@ -35,12 +35,37 @@ module _ {A : Type 0} (R : Pending → A → Pending → List Command → Type 0
   joined {u = u} {k = k} {ds = ds} (one {s = s} {a = a} {l = l} {cs = es} {ds = fs} e q) r =
       subst (λ (ds : List Command). Reads R s (a ∷ (l ++ k)) ds u) (sym (append-assoc es fs ds)) (one e (joined q r))
 
--- ---- from `scan`, and to it
-
-stopped-not : {X : Type 0} {n p : ℕ} {cs : List Command} → stopped n p ≡ commands cs → X
+pub stopped-not : {X : Type 0} {n p : ℕ} {cs : List Command} → stopped n p ≡ commands cs → X
 stopped-not {n} {p} {cs} e = let z : _≡_ {A = ℕ} 0 1 = cc in absurd (omega arith)
 
+-- ---- commands in front of what is read
+
+pub prepend-none : (r : Read) → prepend [] r ≡ r
+prepend-none (stopped n p) = refl
+prepend-none (commands cs) = refl
+
+pub prepend-append : (cs ds : List Command) (r : Read) → prepend cs (prepend ds r) ≡ prepend (cs ++ ds) r
+prepend-append cs ds (stopped n p) = refl
+prepend-append cs ds (commands es) = ap commands (sym (append-assoc cs ds es))
+
+-- what comes behind commands that were read
+pub record More (cs all : List Command) (r : Read) : Type 0 where
+  pub more : List Command
+  pub is : r ≡ commands more
+  pub joined : all ≡ cs ++ more
+
+pub behind : (cs all : List Command) (r : Read) → prepend cs r ≡ commands all → More cs all r
+behind cs all (stopped n p) e = stopped-not e
+behind cs all (commands more) e = record { more = more; is = refl; joined = cc }
+
+-- ---- from `scan`, and to it
+
 module _ {A : Type 0} (step : Pending → A → Step) where
+  -- where no command is pending, what is unfinished begins at the next item
+  pub idle-any : (l : List A) (i b : ℕ) → scan step l i b idle ≡ scan step l i 0 idle
+  idle-any [] i b = refl
+  idle-any (a ∷ l) i b = refl
+
   pub reads-scan : {s u : Pending} {l : List A} {cs : List Command} → Reads (Moves step) s l cs u
       → isPending u ≡ false → (i b : ℕ) → scan step l i b s ≡ commands cs
   reads-scan none n i b = rw n

@@ -9,6 +9,7 @@ use Rattle.words.specs.Words.{wordOf}
 use Rattle.commands.specs.Commands.{commandAt}
 use Rattle.stream.specs.Command.{takesNone, Command, Write}
 use Rattle.stream.specs.Read.{Read, stopped, commands, writes, logCommands}
+use Rattle.stream.specs.Output.{Output, refusal, fitted, onRead}
 
 -- ---- the packed words of some commands
 
@@ -78,25 +79,6 @@ packedLength l =
     parameterWrites l + length gs + groupsWithDummy gs
 
 -- ---- pack
-
--- What a call that fills an output buffer answers, and the words that it stores there from the first on: none on a
--- refusal
-pub record Output : Type 0 where
-  pub number : ℕ
-  pub place : ℕ
-  pub words : List ℕ
-
-abbrev pub refusal : ℕ → ℕ → Output
-refusal n place = record { number = n; place = place; words = [] }
-
--- 10: "output shorter than needed"; capacity is the output's length
-abbrev pub fitted : ℕ → List ℕ → Output
-fitted capacity l =
-    cond (ltb capacity (length l)) (refusal 10 0) (record { number = 0; place = 0; words = l })
-
-abbrev pub onRead : Read → (List Command → Output) → Output
-onRead (stopped n place) f = refusal n place
-onRead (commands cs) f = f cs
 
 -- 9: "packed list would pass 8,192 words"
 unfoldable pub packCommands : ℕ → List Command → Output

@@ -8,7 +8,7 @@ use lib.ListN.{length}
 use Rattle.commands.specs.Commands.{port, commandAt}
 use Rattle.stream.specs.Command.{takesNone, Command, Write, write}
 use Rattle.stream.specs.Read.{listCommands}
-use Rattle.stream.specs.Pack.{Output, refusal, fitted, onRead}
+use Rattle.stream.specs.Output.{Output, refusal, fitted, onRead}
 
 -- these values written to one address
 abbrev pub writesTo : ℕ → List ℕ → List Write
@@ -28,11 +28,20 @@ abbrev pub logOf : List Write → List ℕ
 logOf [] = []
 logOf (w ∷ ws) = w .address ∷ w .value ∷ logOf ws
 
--- 7: "list over 8,192 words"; "unpack 7, first 3, 8, 10"
-unfoldable pub unpack : ℕ → List ℕ → Output
-unpack capacity list =
+-- The numbers that a list's commands are unpacked to
+unfoldable pub commandsLog : List Command → List ℕ
+commandsLog cs = logOf (allWrites cs)
+
+-- 7: "list over 8,192 words"; "unpack 7, first 3, 8, 10". "It works over a list reader that keeps the caller's words and
+-- its place": the list from word i on
+unfoldable pub unpackFrom : ℕ → ℕ → List ℕ → Output
+unpackFrom i capacity list =
     cond (ltb 8192 (length list)) (refusal 7 0)
-    (onRead (listCommands list) (λ cs. fitted capacity (logOf (allWrites cs))))
+    (onRead (listCommands i list) (λ cs. fitted capacity (commandsLog cs)))
+
+-- the whole list
+abbrev pub unpack : ℕ → List ℕ → Output
+unpack capacity list = unpackFrom 0 capacity list
 
 -- a log with 0 as the value of each write to a port without parameters
 abbrev pub zeroedWrite : Write → Write

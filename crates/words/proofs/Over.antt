@@ -1,8 +1,9 @@
 -- Laws of an output buffer: elements laid over the start of a list, over any element type. Assumes nothing.
 use mathlib.Core.Bool.{Bool, true, false}
 use mathlib.Core.List.{List, [], _∷_, _++_}
-use mathlib.Core.Path.{_≡_, refl}
-use Prim.Native.Nat.{ℕ, _+_, _≤_, _<_, min}
+use mathlib.Core.Path.{_≡_, refl, _∙_}
+use Prim.Native.Nat.{ℕ, suc, _+_, _≤_, _<_, min}
+use native.Mathlib.Nat.{add-zero, zero-add}
 use native.Mathlib.Numerals.{add-one}
 use native.Mathlib.Omega.{arith}
 use lib.Dec.{leb}
@@ -12,6 +13,18 @@ use borrow.Author.Tests.{leb-true, leb-false}
 use Rattle.words.specs.Words.{over}
 
 module _ {A : Type 0} where
+  -- elements stored behind others
+  pub sets-append : (l : List A) (i : ℕ) (xs ys : List A) → sets l i (xs ++ ys) ≡ sets (sets l i xs) (i + length xs) ys
+  sets-append l i [] ys = rw (add-zero i)
+  sets-append l i (x ∷ xs) ys =
+      let e : i + suc (length xs) ≡ suc i + length xs = omega arith in
+      sets-append (set l i x) (suc i) xs ys ∙ rw e
+
+  -- elements stored from the first place on
+  pub sets-over : (l xs : List A) → length xs ≤ length l → sets l 0 xs ≡ over xs l
+  unfolding over
+  sets-over l xs h = sets-eq xs l 0 (omega arith) ∙ rw (zero-add (length xs))
+
   pub length-over : (new old : List A) → length new ≤ length old → length (over new old) ≡ length old
   unfolding over
   length-over new old h = simp (length-append, length-drop) (omega arith)

@@ -1,0 +1,151 @@
+-- How many words the commands of a command word take, and how many port writes they are. Assumes nothing.
+use mathlib.Core.Bool.{Bool, true, false, cond}
+use mathlib.Core.List.{List, [], _∷_}
+use mathlib.Core.Path.{_≡_, refl, sym, ap, _∙_}
+use Prim.Native.Nat.{ℕ, _+_, _*_, _/_, _%_, _^_, _≤_, _<_}
+use native.Mathlib.Nat.{zero-add}
+use native.Mathlib.Omega.{arith}
+use lib.Dec.{eqb}
+use lib.ListN.{length, take, drop, length-drop}
+use lib.Seq.{length-take-le}
+use borrow.Author.Tests.{ne-eqb}
+use Rattle.commands.specs.Commands.{known, count, port, commandBytes, hole}
+use Rattle.commands.proofs.Table.{count-small}
+use Rattle.stream.specs.Pending.{commandsOf}
+use Rattle.stream.specs.Command.{takesNone, command}
+use Rattle.stream.specs.Pack.{countIf}
+use Rattle.stream.specs.Unpack.{commandsLog}
+use Rattle.stream.proofs.CommandLaws.{takes-none-count, takes-some-count}
+use Rattle.stream.proofs.StepLaws.{commands-few}
+use Rattle.stream.proofs.QueueLaws.{commands-next, hole-next, commands-none}
+use Rattle.stream.proofs.UnpackLaws.{length-commands-log, command-log, length-writes-log}
+use Rattle.unpacker.specs.declared.Extent.{Extent}
+use Rattle.unpacker.specs.Inside.{writesFor, wordsBehind, writesOf, extentOf, commandsFrom}
+
+-- a count tells whether the byte takes parameters
+pub none-by-count : (c n : ℕ) → n ≡ count c → eqb n 0 ≡ takesNone c
+unfolding takesNone
+none-by-count c n e = rw e
+
+pub one-most : (b : Bool) → countIf b 0 ≤ 1
+one-most true = omega arith
+one-most false = omega arith
+
+-- ---- the numbers of port writes
+
+pub length-command : (c : ℕ) (ps : List ℕ) → length ps ≡ count c
+    → length (commandsLog (command c ps ∷ [])) ≡ 2 * writesFor (count c)
+unfolding writesFor takesNone
+length-command c ps e =
+    ap length (command-log c ps)
+    ∙ length-writes-log (port c) (cond (takesNone c) (0 ∷ []) ps)
+    ∙ ap (λ (n : ℕ). 2 * n) (by (eqb (count c) 0))
+  where
+    by : (t : Bool) → length (cond t (0 ∷ []) ps) ≡ cond t 1 (count c)
+    by true = refl
+    by false = e
+
+pub length-commands : (b : Bool) (q l : List ℕ) → wordsBehind b q ≤ length l
+    → length (commandsLog (commandsFrom q l)) ≡ 2 * writesOf q
+unfolding commandsLog
+length-commands b [] l h = refl
+length-commands b (c ∷ q) l h =
+    omega (
+      arith,
+      length-commands-log (command c (take (count c) l) ∷ []) (commandsFrom q (drop (count c) l)),
+      length-command c (take (count c) l) (length-take-le (count c) l (omega arith)),
+      length-commands (takesNone c) q (drop (count c) l) (omega (arith, length-drop (count c) l)),
+    )
+
+-- ---- bounds
+
+words-few : (b : Bool) (q : List ℕ) → wordsBehind b q ≤ 32 * length q + 1
+words-few b [] = omega (arith, one-most b)
+words-few b (c ∷ q) = omega (arith, words-few (takesNone c) q, count-small c)
+
+pub writes-for-none : (n : ℕ) → n ≡ 0 → writesFor n ≡ 1
+unfolding writesFor
+writes-for-none n e = rw e
+
+pub writes-for-some : (n : ℕ) → 1 ≤ n → writesFor n ≡ n
+unfolding writesFor
+writes-for-some n h = rw (ne-eqb n 0 (λ e. omega arith))
+
+pub writes-for-most : (n : ℕ) → writesFor n ≤ n + 1
+unfolding writesFor
+writes-for-most n = by (eqb n 0)
+  where
+    by : (t : Bool) → cond t 1 n ≤ n + 1
+    by true = omega arith
+    by false = omega arith
+
+writes-few : (q : List ℕ) → writesOf q ≤ 33 * length q
+writes-few [] = omega arith
+writes-few (c ∷ q) = omega (arith, writes-few q, count-small c, writes-for-most (count c))
+
+pub extent-small : (w : ℕ) → (wordsBehind false (commandsOf w) ≤ 129) × (writesOf (commandsOf w) ≤ 132)
+extent-small w = (
+  omega (arith, words-few false (commandsOf w), commands-few w),
+  omega (arith, writes-few (commandsOf w), commands-few w),
+)
+
+-- the last command has a word behind the command word, a parameter or the dummy
+writes-some : (b : Bool) (c : ℕ) (q : List ℕ)
+    → (writesOf (c ∷ q) + 1 ≤ wordsBehind b (c ∷ q) + length (c ∷ q)) × (1 ≤ wordsBehind b (c ∷ q))
+writes-some b c [] = by (takesNone c) refl
+  where
+    by : (t : Bool) → takesNone c ≡ t
+        → (writesFor (count c) + 0 + 1 ≤ count c + countIf t 0 + 1) × (1 ≤ count c + countIf t 0)
+    by true e = (omega (arith, writes-for-most (count c)), omega arith)
+    by false e = (omega (arith, writes-for-some (count c) (takes-some-count c e)), omega (arith, takes-some-count c e))
+writes-some b c (d ∷ q) =
+    let ih = writes-some (takesNone c) d q in
+    (omega (arith, ih .0, writes-for-most (count c)), omega (arith, ih .1))
+
+-- at most two port writes for each word, the command word among them
+pub writes-by-words : (w : ℕ) → writesOf (commandsOf w) ≤ 2 * (1 + wordsBehind false (commandsOf w))
+writes-by-words w = few (commandsOf w) (commands-few w)
+  where
+    few : (q : List ℕ) → length q ≤ 4 → writesOf q ≤ 2 * (1 + wordsBehind false q)
+    few [] h = omega arith
+    few (c ∷ q) h = omega (arith, writes-some false c q)
+
+-- ---- the commands of a command word one by one, with `queue` left of it
+
+pub record Extending (w queue words writes : ℕ) (none : Bool) : Type 0 where
+  pub small : queue < 2 ^ 32
+  pub no-hole : hole (commandBytes queue) ≡ false
+  pub words-is : words + wordsBehind none (commandsOf queue) ≡ wordsBehind false (commandsOf w)
+  pub writes-is : writes + writesOf (commandsOf queue) ≡ writesOf (commandsOf w)
+
+pub extent-start : (w : ℕ) → w < 2 ^ 32 → hole (commandBytes w) ≡ false → Extending w w 0 0 false
+extent-start w h o = record {
+  small = h;
+  no-hole = o;
+  words-is = zero-add (wordsBehind false (commandsOf w));
+  writes-is = zero-add (writesOf (commandsOf w));
+}
+
+module _ {w queue words writes : ℕ} {none : Bool} (s : Extending w queue words writes none) where
+  pub extent-bounds : (words ≤ 129) × (writes ≤ 132)
+  extent-bounds = (omega (arith, s .words-is, extent-small w), omega (arith, s .writes-is, extent-small w))
+
+  pub extent-more : known (queue % 256) ≡ true → (n m : ℕ) → n ≡ count (queue % 256) → m ≡ writesFor n
+      → Extending w (queue / 256) (words + n) (writes + m) (eqb n 0)
+  extent-more k n m e f =
+      let q = commands-next queue (s .small) k in
+      let b : eqb n 0 ≡ takesNone (queue % 256) = none-by-count (queue % 256) n e in
+      record {
+        small = omega (arith, s .small);
+        no-hole = sym (hole-next queue (s .small) k) ∙ s .no-hole;
+        words-is = rw b (omega (arith, e, s .words-is, ap (wordsBehind none) q));
+        writes-is = omega (arith, f, ap writesFor e, s .writes-is, ap writesOf q);
+      }
+
+  pub extent-end : known (queue % 256) ≡ false → (n : ℕ) → n ≡ countIf none 0
+      → record { words = words + n; writes = writes } ≡ extentOf w
+  extent-end k n e =
+      let q = commands-none queue k (s .no-hole) in
+      let a : words + n ≡ wordsBehind false (commandsOf w) = omega (arith, s .words-is, ap (wordsBehind none) q) in
+      let b : writes ≡ writesOf (commandsOf w) = omega (arith, s .writes-is, ap writesOf q) in
+      rw (a, b)

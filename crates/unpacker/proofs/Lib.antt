@@ -1,0 +1,5 @@
+pub mod WordLaws
+pub mod ExtentLaws
+pub mod MeasureLaws
+pub mod PutLaws
+pub mod CallLaws

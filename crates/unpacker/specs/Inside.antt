@@ -1,0 +1,66 @@
+-- What the functions inside the unpacker require and promise, of one command word and the words behind it: nothing here
+-- is cited by a contract outside. Assumes nothing.
+use mathlib.Core.Bool.{Bool, false, cond}
+use mathlib.Core.List.{List, [], _∷_}
+use mathlib.Core.Path.{_≡_}
+use Prim.Native.Nat.{ℕ, _+_, _≤_, _<_}
+use lib.Dec.{eqb}
+use lib.ListN.{length, getD, take, drop}
+use lib.Seq.{sets}
+use Rattle.commands.specs.Commands.{count, commandBytes, hole}
+use Rattle.stream.specs.declared.OutputAnswer.{OutputAnswer}
+use Rattle.stream.specs.Pending.{commandsOf}
+use Rattle.stream.specs.Command.{takesNone, Command, command}
+use Rattle.stream.specs.Read.{Read}
+use Rattle.stream.specs.Output.{onRead, answerOf}
+use Rattle.stream.specs.Pack.{countIf}
+use Rattle.stream.specs.Unpack.{commandsLog}
+use Rattle.unpacker.specs.declared.Extent.{Extent}
+use Rattle.unpacker.specs.declared.Places.{Places}
+
+-- how many port writes a command of n parameters is
+unfoldable pub writesFor : ℕ → ℕ
+writesFor n = cond (eqb n 0) 1 n
+
+-- how many words behind their command word some commands take, with the dummy; b: the command before them takes none
+abbrev pub wordsBehind : Bool → List ℕ → ℕ
+wordsBehind b [] = countIf b 0
+wordsBehind b (c ∷ q) = count c + wordsBehind (takesNone c) q
+
+-- how many port writes they are
+abbrev pub writesOf : List ℕ → ℕ
+writesOf [] = 0
+writesOf (c ∷ q) = writesFor (count c) + writesOf q
+
+abbrev pub extentOf : ℕ → Extent
+extentOf w = record { words = wordsBehind false (commandsOf w); writes = writesOf (commandsOf w) }
+
+-- the commands, with their parameters from the words behind
+abbrev pub commandsFrom : List ℕ → List ℕ → List Command
+commandsFrom [] l = []
+commandsFrom (c ∷ q) l = command c (take (count c) l) ∷ commandsFrom q (drop (count c) l)
+
+-- the commands of the i-th word of a list, a command word
+unfoldable pub wordCommands : List ℕ → ℕ → List Command
+wordCommands l i = commandsFrom (commandsOf (getD l i 0)) (drop (i + 1) l)
+
+-- the place behind that word and the words that are its commands'
+unfoldable pub behindWord : List ℕ → ℕ → ℕ
+behindWord l i = i + 1 + wordsBehind false (commandsOf (getD l i 0))
+
+-- what is read is answered with, with a buffer that is long enough
+abbrev pub measured : Read → OutputAnswer
+measured r = answerOf (onRead r (λ cs. record { number = 0; place = 0; words = commandsLog cs }))
+
+-- the i-th word is a command word without a hole, its words are there, and its port writes fit the buffer from `to` on
+pub record WordFits (l : List ℕ) (i to : ℕ) (old : List ℕ) : Type 0 where
+  pub within : i < length l
+  pub no-hole : hole (commandBytes (getD l i 0)) ≡ false
+  pub all-there : behindWord l i ≤ length l
+  pub room : to + length (commandsLog (wordCommands l i)) ≤ length old
+
+-- its port writes are stored
+pub record PutWord (l : List ℕ) (i to : ℕ) (old new : List ℕ) (r : Places) : Type 0 where
+  pub next : r .next ≡ behindWord l i
+  pub end : r .to ≡ to + length (commandsLog (wordCommands l i))
+  pub buffer : new ≡ sets old to (commandsLog (wordCommands l i))
