@@ -197,3 +197,35 @@ pub fn unpack_from(words: &[u32], place: usize, output: &mut [u32]) -> OutputAns
     put_list(&table, words, place, output);
     answer
 }
+
+// Document 01's list reader: the caller's words, and a place in them.
+pub struct ListReader<'a> {
+    pub words: &'a [u32],
+    pub place: usize,
+}
+
+impl<'a> ListReader<'a> {
+    // A reader at the first word.
+    pub fn new(words: &'a [u32]) -> ListReader<'a>
+        ensures { λ r. ⌜ (r .words ≡ words .entry) × (r .place ≡ 0) ⌝ }
+    {
+        ListReader { words, place: 0 }
+    }
+
+    // The list from the reader's place on.
+    pub fn unpack<'b>(self, output: &'b mut [u32]) -> OutputAnswer
+        ensures { λ r. ⌜ Stores
+            (unpackFrom (self .entry .place) (length (now (output .entry))) (now (self .entry .words)))
+            r (now (output .entry)) (now (output .exit)) ⌝ }
+    {
+        unpack_from(self.words, self.place, output)
+    }
+}
+
+// The whole list, by a reader at its first word.
+pub fn unpack(words: &[u32], output: &mut [u32]) -> OutputAnswer
+    ensures { λ r. ⌜ Stores (Unpack·unpack (length (now (output .entry))) (now (words .entry))) r
+        (now (output .entry)) (now (output .exit)) ⌝ }
+{
+    ListReader::new(words).unpack(output)
+}
