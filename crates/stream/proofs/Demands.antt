@@ -20,7 +20,7 @@ use Rattle.stream.proofs.StepLaws.{idle-sound, sound-idle, AllComplete,
 use Rattle.stream.proofs.ReadLaws.{Reads, Moves, reads-scan, scan-reads, reads-complete, stopped-number}
 use Rattle.stream.proofs.CallLaws.{simulated}
 use Rattle.stream.proofs.PackLaws.{word-moves, read-words, length-packed}
-use Rattle.stream.proofs.UnpackLaws.{length-log}
+use Rattle.stream.proofs.UnpackLaws.{length-log, length-writes}
 use Rattle.stream.proofs.LogLaws.{zeroed-writes, length-zeroed, log-parameters, words-bound}
 
 -- ---- a log that is read, and one that the packer accepts
@@ -120,11 +120,6 @@ module _ {State : Type 0} (exec : Command → State → State) (sound longEnough
       (sym (sound-idle (m .pending) e b)) (from-idle capacity log (m .state) a f)
 
 -- ---- demand 2, the round trip
-
-length-writes : (log : List ℕ) → 2 * length (writes log) ≤ length log
-length-writes [] = omega arith
-length-writes (a ∷ []) = omega arith
-length-writes (a ∷ v ∷ l) = omega (arith, length-writes l)
 
 pub demand2 : (capacity back : ℕ) (log : List ℕ) → pack capacity log .number ≡ 0 → length log ≤ back
     → unpack back (pack capacity log .words)

@@ -3,6 +3,7 @@ pub mod QueueLaws
 pub mod CommandLaws
 pub mod StepLaws
 pub mod ReadLaws
+pub mod OutputLaws
 pub mod CallLaws
 pub mod PackLaws
 pub mod UnpackLaws

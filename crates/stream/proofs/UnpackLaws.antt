@@ -2,11 +2,12 @@
 use mathlib.Core.Bool.{Bool, true, false, cond}
 use mathlib.Core.List.{List, [], _∷_, _++_, append-assoc, append-nil}
 use mathlib.Core.Path.{_≡_, refl, sym, ap, _∙_}
-use Prim.Native.Nat.{ℕ, suc, _+_, _*_}
+use Prim.Native.Nat.{ℕ, suc, _+_, _*_, _/_}
 use native.Mathlib.Omega.{arith}
 use lib.ListN.{length, length-append}
 use Rattle.commands.specs.Commands.{port}
 use Rattle.stream.specs.Command.{takesNone, Command, command, Write}
+use Rattle.stream.specs.Read.{writes}
 use Rattle.stream.specs.Unpack.{writesTo, commandWrites, allWrites, logOf, commandsLog}
 
 -- ---- writes
@@ -18,6 +19,12 @@ length-writes-to a (v ∷ h) = ap suc (length-writes-to a h)
 pub length-log : (l : List Write) → length (logOf l) ≡ 2 * length l
 length-log [] = refl
 length-log (w ∷ l) = omega (arith, length-log l)
+
+-- a log has a port write for every two words
+pub length-writes : (log : List ℕ) → length (writes log) ≡ length log / 2
+length-writes [] = omega arith
+length-writes (a ∷ []) = omega arith
+length-writes (a ∷ v ∷ l) = omega (arith, length-writes l)
 
 log-append : (l k : List Write) → logOf (l ++ k) ≡ logOf l ++ logOf k
 log-append [] k = refl

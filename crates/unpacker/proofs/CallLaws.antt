@@ -7,7 +7,6 @@ use native.Mathlib.Omega.{arith}
 use lib.ListN.{length, drop}
 use borrow.Author.Tests.{lt-ltb, le-ltb}
 use Rattle.words.specs.Words.{over}
-use Rattle.words.proofs.Over.{over-none}
 use Rattle.stream.specs.declared.OutputAnswer.{OutputAnswer}
 use Rattle.stream.specs.Pending.{idle}
 use Rattle.stream.specs.Command.{Command}
@@ -18,12 +17,8 @@ use Rattle.stream.specs.Pack.{orNone}
 use Rattle.stream.specs.Unpack.{commandsLog, unpackFrom}
 use Rattle.stream.proofs.StepLaws.{idle-sound, word-keeps}
 use Rattle.stream.proofs.ReadLaws.{stopped-number}
+use Rattle.stream.proofs.OutputLaws.{stores-none}
 use Rattle.unpacker.specs.Inside.{measured}
-
--- a refusal stores nothing
-pub stores-none : {o : Output} (n p : ℕ) (r : OutputAnswer) (old : List ℕ) → o ≡ refusal n p → r ≡ answerOf (refusal n p)
-    → Stores o r old old
-stores-none n p r old e f = record { answer = f ∙ ap answerOf (sym e); buffer = rw e (sym (over-none old)) }
 
 module _ (place capacity : ℕ) (l : List ℕ) where
   pub too-long : 8192 < length l → unpackFrom place capacity l ≡ refusal 7 0

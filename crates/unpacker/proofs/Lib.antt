@@ -3,3 +3,4 @@ pub mod ExtentLaws
 pub mod MeasureLaws
 pub mod PutLaws
 pub mod CallLaws
+pub mod Capacity

@@ -11,7 +11,7 @@ ghost use Rattle.words.specs.Words.{over};
 ghost use Rattle.commands.specs.Commands.{port, commandBytes, hole, parameterTable};
 ghost use Rattle.stream.specs.Pending.{commandsOf};
 ghost use Rattle.stream.specs.Read.{commands, listCommands};
-ghost use Rattle.stream.specs.Output.{Stores};
+ghost use Rattle.stream.specs.Output.{onBytes, Stores};
 ghost use Rattle.stream.specs.Pack.{countIf, orNone};
 ghost use Rattle.stream.specs.Unpack.{writesTo, logOf, commandsLog, unpackFrom, unpack as Unpack·unpack};
 ghost use Rattle.unpacker.specs.Inside.{writesFor, extentOf, measured, wordsBehind, commandsFrom, wordCommands};
@@ -24,6 +24,7 @@ use commands::parameter_table;
 use commands::port_of;
 use stream::OutputAnswer;
 use stream::refused;
+use words::read_words;
 
 // The longest list, in words.
 const LONGEST: usize = 8192;
@@ -228,4 +229,28 @@ pub fn unpack(words: &[u32], output: &mut [u32]) -> OutputAnswer
         (now (output .entry)) (now (output .exit)) ⌝ }
 {
     ListReader::new(words).unpack(output)
+}
+
+// Room for the longest list. A caller's proof has its length alone.
+fn longest_list() -> [u32; 8192]
+    ensures { λ r. ⌜ length r ≡ 8192 ⌝ }
+{
+    [0; 8192]
+}
+
+// A list that is given as bytes, little-endian words; 7 also for bytes that are not whole words.
+pub fn unpack_bytes(input: &[u8], output: &mut [u32]) -> OutputAnswer
+    ensures { λ r. ⌜ Stores (onBytes (Unpack·unpack (length (now (output .entry)))) (now (input .entry))) r
+        (now (output .entry)) (now (output .exit)) ⌝ }
+{
+    if input.len() % 4 != 0 {
+        return refused(7, 0);
+    }
+    let count = input.len() / 4;
+    if LONGEST < count {
+        return refused(7, 0);
+    }
+    let mut words = longest_list();
+    read_words(input, &mut words[..count]);
+    unpack(&words[..count], output)
 }

@@ -1,13 +1,13 @@
 -- Laws of an output buffer: elements laid over the start of a list, over any element type. Assumes nothing.
 use mathlib.Core.Bool.{Bool, true, false}
-use mathlib.Core.List.{List, [], _∷_, _++_}
+use mathlib.Core.List.{List, [], _∷_, _++_, append-nil}
 use mathlib.Core.Path.{_≡_, refl, _∙_}
 use Prim.Native.Nat.{ℕ, suc, _+_, _≤_, _<_, min}
 use native.Mathlib.Nat.{add-zero, zero-add}
 use native.Mathlib.Numerals.{add-one}
 use native.Mathlib.Omega.{arith}
 use lib.Dec.{leb}
-use lib.ListN.{length, getD, take, drop, set, length-append, length-drop}
+use lib.ListN.{length, getD, take, drop, set, length-append, length-drop, drop-of-length-le}
 use lib.Seq.{sets, sets-eq, take-all, take-suc, length-take-le, take-append-seam, drop-append-add, drop-drop}
 use borrow.Author.Tests.{leb-true, leb-false}
 use Rattle.words.specs.Words.{over}
@@ -33,6 +33,11 @@ module _ {A : Type 0} where
   pub over-none : (old : List A) → over [] old ≡ old
   unfolding over
   over-none old = refl
+
+  -- all of the buffer written
+  pub over-all : (new old : List A) → length new ≡ length old → over new old ≡ new
+  unfolding over
+  over-all new old e = rw (drop-of-length-le old {i = length new} (omega arith)) (append-nil new)
 
   -- what was written is read back
   pub take-over : (new old : List A) → take (length new) (over new old) ≡ new

@@ -1,6 +1,7 @@
 -- `unpacker::unpack_from` meets its contract. Assumes nothing.
 use lib.ListN.{length}
-use Rattle.unpacker.proofs.CallLaws.{stores-none, too-long, refused-reading, Accepted, accepted, too-small, stores-log}
+use Rattle.stream.proofs.OutputLaws.{stores-none}
+use Rattle.unpacker.proofs.CallLaws.{too-long, refused-reading, Accepted, accepted, too-small, stores-log}
 use native.Mathlib.Omega.{arith}
 use borrow.Author.Needs.{needs}
 use Rattle.unpacker.proofs.unpack_from.Statement.{statement}

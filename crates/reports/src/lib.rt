@@ -1,0 +1,37 @@
+// What the programs write for what they read.
+ghost use mathlib.Core.Path.{_≡_};
+ghost use lib.ListN.{length};
+ghost use Rattle.io.specs.Counts.{Counts};
+ghost use Rattle.listing.specs.Inside.{Puts};
+ghost use Rattle.reports.specs.Unpack.{unpackReport};
+use listing::put_ports;
+use listing::put_refused;
+use unpacker::unpack_bytes;
+
+// Room for 16,384 port writes. A caller's proof has its length alone.
+fn longest_log() -> [u32; 32768]
+    ensures { λ r. ⌜ length r ≡ 32768 ⌝ }
+{
+    [0; 32768]
+}
+
+// Room for the longest report of a log: the first line and 16,384 lines of 18 bytes.
+pub fn log_report_buffer() -> [u8; 294929]
+    ensures { λ r. ⌜ 294929 ≡ length r ⌝ }
+{
+    [0; 294929]
+}
+
+// What the program `unpack` writes for its input, from the buffer's first byte on; how many bytes that is.
+pub fn unpack_report(input: &[u8], text: &mut [u8; 294929]) -> usize
+    ensures { λ r. ⌜ Puts (unpackReport (now (input .entry))) 0 r (now (text .entry)) (now (text .exit)) ⌝ }
+    ensures { λ r. ⌜ Counts r (now (text .exit)) ⌝ }
+{
+    let mut log = longest_log();
+    let answer = unpack_bytes(input, &mut log);
+    if answer.number != 0 {
+        return put_refused(text, 0, answer.number, answer.place);
+    }
+    let length = answer.length as usize;
+    put_ports(text, 0, &log[..length])
+}

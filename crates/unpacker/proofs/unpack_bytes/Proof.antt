@@ -1,0 +1,98 @@
+-- `unpacker::unpack_bytes` meets its contract. Assumes nothing.
+use mathlib.Core.List.{_++_}
+use mathlib.Core.Path.{_≡_, sym, ap, subst, _∙_}
+use Prim.Native.Nat.{_/_, _<_}
+use lib.ListN.{length, take, drop}
+use lib.Seq.{length-take-le, length-front}
+use Rattle.words.specs.Words.{wordsOf}
+use Rattle.words.proofs.Words.{length-wordsOf, read-all}
+use Rattle.stream.specs.Output.{Output, Stores}
+use Rattle.stream.specs.Unpack.{unpack}
+use Rattle.stream.proofs.OutputLaws.{stores-none, not-whole-words, whole-words}
+use Rattle.unpacker.proofs.CallLaws.{too-long}
+use native.Mathlib.Omega.{arith}
+use borrow.Author.Needs.{needs}
+use Rattle.unpacker.proofs.unpack_bytes.Statement.{statement}
+use Rattle.unpacker.proofs.unpack_bytes.Tie as tie
+
+refused-requires : tie.Need-refused-requires
+refused-requires c κs = search needs
+
+returns : tie.Need-returns
+returns c =
+    let a = c .before .before .before .before .args in
+    stores-none 7 0 (c .refused .result) (a .output .now)
+    (not-whole-words (unpack (length (a .output .now))) (a .input .now) (c .before .if1 .taken)) (c .refused .ensures)
+
+refused-requires-2 : tie.Need-refused-requires-2
+refused-requires-2 c κs = search needs
+
+returns-2 : tie.Need-returns-2
+returns-2 c =
+    let a = c .before .before .before .before .before .args in
+    let n = length (a .output .now) in
+    let e = whole-words (unpack n) (a .input .now) (c .before .before .if1 .left) in
+    let h : 8192 < length (wordsOf (a .input .now)) = omega (arith, length-wordsOf (a .input .now), c .before .if2 .taken) in
+    stores-none 7 0 (c .refused2 .result) (a .output .now) (e ∙ too-long 0 n (wordsOf (a .input .now)) h) (c .refused2 .ensures)
+
+longest-list-requires : tie.Need-longest-list-requires
+longest-list-requires c κs = search needs
+
+array-borrow-prefix-words : tie.Need-array-borrow-prefix-words
+array-borrow-prefix-words c = search needs
+
+slice-aggregate-read-words : tie.Need-slice-aggregate-read-words
+slice-aggregate-read-words c = sym (length-take-le _ (c .before .longest-list .result) (omega arith))
+
+read-words-requires : tie.Need-read-words-requires
+read-words-requires c κs = search needs
+
+-- what is lent to the unpacker: the words of the input
+words-lent : (c : tie.After-words2) → let bytes = c .before .before .before .before .before .before .before .before .args .input .now in
+    take (length bytes / 4)
+    (c .before .read-words .last .1 .0 ++ drop (length bytes / 4) (c .before .before .before .longest-list .result)) ≡ wordsOf bytes
+words-lent c =
+    let bytes = c .before .before .before .before .before .before .before .before .args .input .now in
+    let made = c .before .before .before .longest-list .result in
+    read-all bytes (take (length bytes / 4) made) (drop (length bytes / 4) made) (c .before .read-words .last .1 .0)
+    (length-take-le (length bytes / 4) made (omega arith)) (c .before .read-words .ensures)
+
+array-share-prefix-words : tie.Need-array-share-prefix-words
+array-share-prefix-words c =
+    rw (length-front (c .before .before .before .longest-list .result) (c .before .read-words .last .1 .0) _ (c .before .read-words .kept .1 .0)) (omega arith)
+
+slice-aggregate-unpack : tie.Need-slice-aggregate-unpack
+slice-aggregate-unpack c = rw (words-lent (c .before)) (omega (arith, length-wordsOf (c .before .before .before .before .before .before .before .before .before .args .input .now)))
+
+unpack-requires : tie.Need-unpack-requires
+unpack-requires c κs = search needs
+
+same-length : tie.Need-same-length
+same-length c = search needs
+
+returns-3 : tie.Need-returns-3
+returns-3 c =
+    let a = c .before .before .before .before .before .before .before .before .before .before .before .before .before .args in
+    let n = length (a .output .now) in
+    let u = c .before .before .unpack in
+    let e = whole-words (unpack n) (a .input .now) (c .before .before .before .before .before .before .before .before .before .before .if1 .left) in
+    subst (λ (o : Output). Stores o (u .result) (a .output .now) (u .last .1 .0))
+    (ap (unpack n) (words-lent (c .before .before .before .before .before)) ∙ sym e) (u .ensures)
+
+pub unpack-bytes-spec : {M : Type 1} → statement M
+unpack-bytes-spec =
+    tie.close
+    (tie.spec
+    refused-requires
+    returns
+    refused-requires-2
+    returns-2
+    longest-list-requires
+    array-borrow-prefix-words
+    slice-aggregate-read-words
+    read-words-requires
+    array-share-prefix-words
+    slice-aggregate-unpack
+    unpack-requires
+    same-length
+    returns-3)
