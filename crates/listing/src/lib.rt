@@ -8,8 +8,8 @@ ghost use Rattle.stream.specs.Read.{writes};
 ghost use Rattle.listing.specs.Text.{decimal, hex8, writeLine, writeLines, portsText, refusedLine};
 ghost use Rattle.listing.specs.Inside.{Puts};
 
-// Every function here stores its text in the buffer from `at` on and answers where the next goes. Each is for the crates
-// above, which have a buffer that is long enough.
+// Every function here stores its text in the buffer from `at` on and answers where the next goes. Each is for the
+// crates above, which have a buffer that is long enough.
 
 // Some bytes.
 pub fn put_bytes(text: &mut [u8], at: usize, bytes: &[u8]) -> usize

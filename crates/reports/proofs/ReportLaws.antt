@@ -11,7 +11,7 @@ use Rattle.words.specs.Words.{over}
 use Rattle.words.proofs.Over.{take-over}
 use Rattle.stream.specs.declared.OutputAnswer.{OutputAnswer}
 use Rattle.stream.specs.Read.{writes}
-use Rattle.stream.specs.Output.{onBytes, Stores}
+use Rattle.stream.specs.Output.{Output, onBytes, Stores}
 use Rattle.stream.specs.Unpack.{unpack}
 use Rattle.stream.proofs.UnpackLaws.{length-writes}
 use Rattle.stream.proofs.OutputLaws.{on-bytes-fits}
@@ -41,9 +41,10 @@ module _ (input : List ℕ) (r : OutputAnswer) (old new : List ℕ) (long : leng
   pub refused-report : (r .number ≡ 0 → ⊥) → refusedLine (r .number) (r .place) ≡ unpackReport input
   unfolding unpackReport logReport
   refused-report d =
-      let n : r .number ≡ onBytes (unpack 32768) input .number = ap (λ (x : OutputAnswer). x .number) (stores .answer) in
-      let p : r .place ≡ onBytes (unpack 32768) input .place = ap (λ (x : OutputAnswer). x .place) (stores .answer) in
-      rw (ne-eqb (onBytes (unpack 32768) input .number) 0 (λ e. d (n ∙ e)), n, p)
+      let o : Output = onBytes (unpack 32768) input in
+      let n : r .number ≡ o .number = ap (λ (x : OutputAnswer). x .number) (stores .answer) in
+      let p : r .place ≡ o .place = ap (λ (x : OutputAnswer). x .place) (stores .answer) in
+      rw (ne-eqb (o .number) 0 (λ e. d (n ∙ e)), n, p)
 
   length-is : r .length ≡ length (onBytes (unpack 32768) input .words)
   length-is = ap (λ (x : OutputAnswer). x .length) (stores .answer)
@@ -54,11 +55,6 @@ module _ (input : List ℕ) (r : OutputAnswer) (old new : List ℕ) (long : leng
   pub log-report : r .number ≡ 0 → portsText (writes (take (r .length) new)) ≡ unpackReport input
   unfolding unpackReport logReport
   log-report z =
-      let n : onBytes (unpack 32768) input .number ≡ 0 =
-      sym (ap (λ (x : OutputAnswer). x .number) (stores .answer)) ∙ z in
-      rw (
-        eq-eqb (onBytes (unpack 32768) input .number) 0 n,
-        stores .buffer,
-        length-is,
-        take-over (onBytes (unpack 32768) input .words) old,
-      )
+      let o : Output = onBytes (unpack 32768) input in
+      let n : o .number ≡ 0 = sym (ap (λ (x : OutputAnswer). x .number) (stores .answer)) ∙ z in
+      rw (eq-eqb (o .number) 0 n, stores .buffer, length-is, take-over (o .words) old)

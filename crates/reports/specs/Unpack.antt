@@ -1,4 +1,5 @@
--- What the program `unpack` writes for what it reads, both as bytes: document 01, "Packer and unpacker". Assumes nothing.
+-- What the program `unpack` writes for what it reads, both as bytes: document 01, "Packer and unpacker".
+-- Assumes nothing.
 use mathlib.Core.Bool.{cond}
 use mathlib.Core.List.{List}
 use Prim.Native.Nat.{ℕ}
@@ -12,7 +13,7 @@ use Rattle.listing.specs.Text.{portsText, refusedLine}
 unfoldable pub logReport : Output → List ℕ
 logReport o = cond (eqb (o .number) 0) (portsText (writes (o .words))) (refusedLine (o .number) (o .place))
 
--- "The unpack program reads standard input, little-endian words." "A list can give up to 16,384 pairs; the program prints
--- them all and never answers 10."
+-- "The unpack program reads standard input, little-endian words." "A list can give up to 16,384 pairs; the program
+-- prints them all and never answers 10."
 unfoldable pub unpackReport : List ℕ → List ℕ
 unpackReport input = logReport (onBytes (unpack 32768) input)

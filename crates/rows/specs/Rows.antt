@@ -7,12 +7,16 @@ use Prim.Native.Nat.{ℕ, zero, suc, _*_}
 use lib.IntN.{ℤ, pos, negsuc}
 use lib.ListN.{set, replicate}
 use Rattle.lowbits.specs.Bits.{floorBits, lowBits, asSigned}
+use Rattle.words.specs.Words.{wordsOf, bytesOf}
 use Rattle.commands.specs.declared.Count.the-variants.{Takes, Unknown}
 use Rattle.commands.specs.Commands.{commandRows, lookup, known, count, port, counted, commandAt, commandBytes, hole}
 use Rattle.matrix.specs.Matrix.{entry, rowBy, mul, unit, scaleMatrix, at, one}
 use Rattle.stream.specs.Pending.{idle, dummyDue, queued, commandsOf, soundPending}
 use Rattle.stream.specs.Command.{takesNone, command, write}
 use Rattle.stream.specs.Step.{commandWord, parameterWord, wordStep, heldWith, portParameter, portStep}
+use Rattle.stream.specs.Read.{listCommands}
+use Rattle.stream.specs.Output.{Output, refusal, onBytes}
+use Rattle.stream.specs.Unpack.{commandWrites, commandsLog, unpackFrom, unpack}
 use Rattle.stream.specs.Call.{Machine, Reply, machine, reply, run, callBy}
 use Rattle.stream.specs.Demand3.{after}
 use Rattle.state.specs.declared.OpenList.the-variants.{TriangleStrip}
@@ -40,6 +44,8 @@ use Rattle.geometry.specs.Command.{runGeometry}
 use Rattle.execute.specs.Operation.{carried, registerCommandOf, operationOf}
 use Rattle.execute.specs.Execute.{runRegisters, runOperation, execute}
 use Rattle.engine.specs.Call.{exec, wordReply, portReply}
+use Rattle.listing.specs.Text.{ascii, decimal, hex8, writeLine, portsText, refusedLine}
+use Rattle.reports.specs.Unpack.{logReport, unpackReport}
 
 pub record WorkedRow : Type 1 where
   pub Kind : Type 0
@@ -137,6 +143,10 @@ usedIn s = geometryOf s .used .vertices ∷ geometryOf s .used .polygons ∷ []
 abbrev storedX : ℕ → ℕ → Buffered Core → List ℤ
 storedX zero i s = []
 storedX (suc n) i s = at (s .vertices) (vertexWidth * i) ∷ storedX n (suc i) s
+
+-- an accepted list, and the numbers that are stored
+abbrev unpacked : List ℕ → Output
+unpacked l = record { number = 0; place = 0; words = l }
 
 -- ---- the table, in document 01's order
 
@@ -280,8 +290,36 @@ soundRows =
     (true ∷ false ∷ false ∷ false ∷ [])
     ∷ []
 
+abbrev pub unpackRows : List WorkedRow
+unpackRows =
+    -- of the unpack program: "Input 00001510h, 00000002h, 00000000h prints exactly"
+    row (unpackReport (bytesOf (0x1510 ∷ 2 ∷ 0 ∷ [])))
+    (ascii "ports 2\n04000440 00000002\n04000454 00000000\n")
+    -- and "as `refused 3 0`"; an empty input; one that is not whole words
+    ∷ row (unpackReport (bytesOf (0x0011_0015 ∷ []))) (ascii "refused 3 0\n")
+    ∷ row (unpackReport []) (ascii "ports 0\n")
+    ∷ row (unpackReport (0x10 ∷ 0 ∷ 0 ∷ [])) (ascii "refused 7 0\n")
+    -- of "any dummy is taken", one like a hole too; of a word without commands
+    ∷ row (unpack 2 (0x15 ∷ 0x0011_0015 ∷ [])) (unpacked (0x0400_0454 ∷ 0 ∷ []))
+    ∷ row (unpack 0 (0x9f73_ffab ∷ 0 ∷ [])) (unpacked [])
+    -- of a parameter like a hole, and of 23h's two: each is a pair
+    ∷ row (unpack 4 (0x23 ∷ 0x0011_0015 ∷ 8 ∷ [])) (unpacked (0x0400_048c ∷ 0x0011_0015 ∷ 0x0400_048c ∷ 8 ∷ []))
+    -- of the places: a hole in the third word; the command word that begins what is unfinished, a command or its dummy
+    ∷ row (unpack 9 (0x10 ∷ 2 ∷ 0x0011_0015 ∷ 0x10 ∷ [])) (refusal 3 2)
+    ∷ row (unpack 9 (0x10 ∷ 2 ∷ 0x2310 ∷ 2 ∷ 8 ∷ [])) (refusal 8 2)
+    ∷ row (unpack 9 (0x10 ∷ 2 ∷ 0x15 ∷ [])) (refusal 8 2)
+    -- of the order: 8 where 10 could be given too; 10, with an output one shorter than needed
+    ∷ row (unpack 0 (0x10 ∷ 2 ∷ 0x15 ∷ [])) (refusal 8 2)
+    ∷ row (unpack 3 (0x1510 ∷ 2 ∷ 0 ∷ [])) (refusal 10 0)
+    -- of the list reader's place: from the third word on, places counted from the first; at and past the end
+    ∷ row (unpackFrom 2 9 (0x10 ∷ 2 ∷ 0x23 ∷ 7 ∷ [])) (refusal 8 2)
+    ∷ row (unpackFrom 1 2 (0x0011_0015 ∷ 0x10 ∷ 2 ∷ [])) (unpacked (0x0400_0440 ∷ 2 ∷ []))
+    ∷ row (unpackFrom 3 0 (0x0011_0015 ∷ 0x10 ∷ 2 ∷ [])) (unpacked [])
+    ∷ row (unpackFrom 4 0 (0x0011_0015 ∷ 0x10 ∷ 2 ∷ [])) (unpacked [])
+    ∷ []
+
 abbrev pub workedRows : List WorkedRow
-workedRows = commandTableRows ++ callRows ++ matrixRows ++ stackRows ++ geometryRows ++ soundRows
+workedRows = commandTableRows ++ callRows ++ matrixRows ++ stackRows ++ geometryRows ++ soundRows ++ unpackRows
 
 -- ---- its claim
 
@@ -363,16 +401,48 @@ sounds : AllHold soundRows
 unfolding commandRows lookup known count counted commandBytes commandsOf soundPending pendingOf soundStream
 sounds = (refl, (refl, (refl, (refl, (refl, tt)))))
 
+unpacks : AllHold unpackRows
+unfolding commandRows lookup known count port counted commandBytes hole commandsOf takesNone commandWord parameterWord
+    wordStep listCommands commandWrites commandsLog unpackFrom wordsOf bytesOf onBytes decimal hex8 writeLine portsText
+    refusedLine logReport unpackReport
+unpacks = (
+  refl,
+  (
+    refl,
+    (
+      refl,
+      (
+        refl,
+        (
+          refl,
+          (
+            refl,
+            (
+              refl,
+              (
+                refl,
+                (refl, (refl, (refl, (refl, (refl, (refl, (refl, (refl, tt)))))))),
+              ),
+            ),
+          ),
+        ),
+      ),
+    ),
+  ),
+)
+
 join : (xs ys : List WorkedRow) → AllHold xs → AllHold ys → AllHold (xs ++ ys)
 join [] ys a b = b
 join (x ∷ xs) ys a b = (a .0, join xs ys (a .1) b)
 
 pub worked : AllHold workedRows
 worked =
-    join (commandTableRows ++ callRows ++ matrixRows ++ stackRows ++ geometryRows) soundRows
+    join (commandTableRows ++ callRows ++ matrixRows ++ stackRows ++ geometryRows ++ soundRows) unpackRows
+    (join (commandTableRows ++ callRows ++ matrixRows ++ stackRows ++ geometryRows) soundRows
     (join (commandTableRows ++ callRows ++ matrixRows ++ stackRows) geometryRows
     (join (commandTableRows ++ callRows ++ matrixRows) stackRows
     (join (commandTableRows ++ callRows) matrixRows (join commandTableRows callRows command-table calls) matrices)
     stacks)
     geometries)
-    sounds
+    sounds)
+    unpacks

@@ -31,7 +31,8 @@ log-append [] k = refl
 log-append (w ∷ l) k = ap (λ (x : List ℕ). w .address ∷ w .value ∷ x) (log-append l k)
 
 -- one write more to an address
-pub writes-to-more : (a : ℕ) (ps : List ℕ) (v : ℕ) → logOf (writesTo a (ps ++ v ∷ [])) ≡ logOf (writesTo a ps) ++ a ∷ v ∷ []
+pub writes-to-more : (a : ℕ) (ps : List ℕ) (v : ℕ)
+    → logOf (writesTo a (ps ++ v ∷ [])) ≡ logOf (writesTo a ps) ++ a ∷ v ∷ []
 writes-to-more a [] v = refl
 writes-to-more a (p ∷ ps) v = ap (λ (x : List ℕ). a ∷ p ∷ x) (writes-to-more a ps v)
 

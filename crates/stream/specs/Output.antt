@@ -39,8 +39,8 @@ onBytes f input = cond (eqb (length input % 4) 0) (f (wordsOf input)) (refusal 7
 abbrev pub answerOf : Output → OutputAnswer
 answerOf o = record { number = o .number; place = o .place; length = length (o .words) }
 
--- What such a call promises: its answer r, and what the output buffer holds then, `old` before and `new` after. Document
--- 01: "A refused call changes nothing"; "Success leaves output past the length untouched."
+-- What such a call promises: its answer r, and what the output buffer holds, `old` before and `new` after. Document 01:
+-- "A refused call changes nothing"; "Success leaves output past the length untouched."
 pub record Stores (o : Output) (r : OutputAnswer) (old new : List ℕ) : Type 0 where
   pub answer : r ≡ answerOf o
   pub buffer : new ≡ over (o .words) old

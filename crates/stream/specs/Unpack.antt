@@ -28,12 +28,12 @@ abbrev pub logOf : List Write → List ℕ
 logOf [] = []
 logOf (w ∷ ws) = w .address ∷ w .value ∷ logOf ws
 
--- The numbers that a list's commands are unpacked to
+-- the log that commands are unpacked to
 unfoldable pub commandsLog : List Command → List ℕ
 commandsLog cs = logOf (allWrites cs)
 
--- 7: "list over 8,192 words"; "unpack 7, first 3, 8, 10". "It works over a list reader that keeps the caller's words and
--- its place": the list from word i on
+-- 7: "list over 8,192 words"; "unpack 7, first 3, 8, 10". "It works over a list reader that keeps the caller's words
+-- and its place": the list from word i on
 unfoldable pub unpackFrom : ℕ → ℕ → List ℕ → Output
 unpackFrom i capacity list =
     cond (ltb 8192 (length list)) (refusal 7 0)

@@ -39,7 +39,8 @@ unfolding wordCommands behindWord
 word-few l i cs g =
     omega (
       arith,
-      length-commands false (commandsOf (getD l i 0)) (drop (i + 1) l) (omega (arith, g .all-there, length-drop (i + 1) l)),
+      length-commands false (commandsOf (getD l i 0)) (drop (i + 1) l)
+          (omega (arith, g .all-there, length-drop (i + 1) l)),
       writes-by-words (getD l i 0),
     )
 
@@ -109,7 +110,8 @@ behind-stopped cs (commands ds) m p e = stopped-not (sym e)
 stops : (n : ℕ) (l : List ℕ) (i m p : ℕ) → length l ≤ i + n → listCommands i l ≡ stopped m p → (m ≡ 3) ⊎ (m ≡ 8)
 stops zero l i m p h e = stopped-not (sym e ∙ list-ended l i (omega arith))
 stops (suc n) l i m p h e =
-    by (ltb i (length l)) refl (hole (commandBytes (getD l i 0))) refl (ltb (length l) (behindWord l i)) refl (stops n l)
+    by (ltb i (length l)) refl (hole (commandBytes (getD l i 0))) refl (ltb (length l) (behindWord l i)) refl
+    (stops n l)
   where
     by : (t : Bool) → ltb i (length l) ≡ t → (u : Bool) → hole (commandBytes (getD l i 0)) ≡ u
         → (v : Bool) → ltb (length l) (behindWord l i) ≡ v
@@ -131,7 +133,8 @@ never-10 i l e =
     by (ltb 8192 (length l)) (listCommands i l) refl (sym (ap (λ (o : Output). o .number) (long-enough i l)) ∙ e)
   where
     by : (t : Bool) (r : Read) → listCommands i l ≡ r
-        → cond t (refusal 7 0) (onRead r (λ cs. record { number = 0; place = 0; words = commandsLog cs })) .number ≡ 10 → ⊥
+        → cond t (refusal 7 0) (onRead r (λ cs. record { number = 0; place = 0; words = commandsLog cs })) .number ≡ 10
+        → ⊥
     by true r q z = omega arith
     by false (commands cs) q z = omega arith
     by false (stopped m p) q z =

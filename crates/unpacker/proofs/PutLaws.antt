@@ -18,9 +18,11 @@ use Rattle.stream.specs.Pack.{countIf, orNone}
 use Rattle.stream.specs.Unpack.{writesTo, logOf, commandsLog}
 use Rattle.stream.proofs.QueueLaws.{commands-next, hole-next, commands-none}
 use Rattle.stream.proofs.ReadLaws.{prepend-none, prepend-append, More, behind}
-use Rattle.stream.proofs.UnpackLaws.{writes-to-more, length-writes-log, commands-log-append, length-commands-log, command-log}
+use Rattle.stream.proofs.UnpackLaws.{writes-to-more, length-writes-log, commands-log-append, length-commands-log}
+use Rattle.stream.proofs.UnpackLaws.{command-log}
 use Rattle.unpacker.specs.declared.Places.{Places}
-use Rattle.unpacker.specs.Inside.{writesFor, wordsBehind, commandsFrom, wordCommands, behindWord, WordFits, PutWord}
+use Rattle.unpacker.specs.Inside.{writesFor, wordsBehind, commandsFrom, wordCommands, behindWord}
+use Rattle.unpacker.specs.Inside.{WordFits, PutWord}
 use Rattle.unpacker.proofs.WordLaws.{list-ended, GoodWord, good-word}
 use Rattle.unpacker.proofs.ExtentLaws.{none-by-count, length-command}
 
@@ -147,7 +149,7 @@ module _ {l : List ℕ} {i to : ℕ} {old : List ℕ} {queue next end : ℕ} {no
           (logOf (writesTo (port (queue % 256)) (cond (eqb n 0) (0 ∷ []) (take n (drop next l))))) ∙ p .same;
       buffer = g ∙ sym (ap (sets old to) (commands-log-append (p .done) (first l next queue ∷ []))
           ∙ sets-append old to (commandsLog (p .done)) (commandsLog (first l next queue ∷ []))
-          ∙ rw (← (p .end-is), ← (p .buffer), command-log (queue % 256) (take (count (queue % 256)) (drop next l)), ← e, ← b));
+          ∙ rw (← (p .end-is), ← (p .buffer), command-log (queue % 256) (first l next queue .parameters), ← e, ← b));
     }
 
   module _ (k : known (queue % 256) ≡ false) where
@@ -203,8 +205,8 @@ module _ {l old : List ℕ} {place i to : ℕ} {new : List ℕ} (p : PuttingList
         length-commands-log (p .done) (behind-done .more),
       )
 
-  pub same-length : length new ≡ length old
-  same-length = ap length (p .buffer) ∙ length-over (commandsLog (p .done)) old (omega (arith, fits-done))
+  pub kept-length : length new ≡ length old
+  kept-length = ap length (p .buffer) ∙ length-over (commandsLog (p .done)) old (omega (arith, fits-done))
 
   module _ (h : i < length l) where
     word : GoodWord l i (behind-done .more)
@@ -224,7 +226,7 @@ module _ {l old : List ℕ} {place i to : ℕ} {new : List ℕ} (p : PuttingList
       within = h;
       no-hole = word .no-hole;
       all-there = word .all-there;
-      room = omega (arith, p .to-is, same-length, fits-word);
+      room = omega (arith, p .to-is, kept-length, fits-word);
     }
 
     pub put-list-next : (new′ : List ℕ) (s : Places) → PutWord l i to new new′ s → i < s .next

@@ -151,7 +151,8 @@ pub record GoodWord (l : List ℕ) (i : ℕ) (cs : List Command) : Type 0 where
   pub read : listCommands i l ≡ prepend (wordCommands l i) (listCommands (behindWord l i) l)
   pub rest : More (wordCommands l i) cs (listCommands (behindWord l i) l)
 
-pub good-word : (l : List ℕ) (i : ℕ) (cs : List Command) → i < length l → listCommands i l ≡ commands cs → GoodWord l i cs
+pub good-word : (l : List ℕ) (i : ℕ) (cs : List Command) → i < length l → listCommands i l ≡ commands cs
+    → GoodWord l i cs
 good-word l i cs h e =
     let r = at-complete l i h no-hole all-there in
     record {

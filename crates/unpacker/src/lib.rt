@@ -88,15 +88,16 @@ fn measure(table: &[u8; 256], words: &[u32], place: usize) -> OutputAnswer
     let mut total: usize = 0;
     while i < words.len() {
         let word = words[i];
+        let next = i + 1;
         if has_hole(command_bytes_in(table, word)) {
             return refused(3, i as u32);
         }
         let extent = extent_of(table, word);
         let behind = extent.words;
-        if words.len() - i - 1 < behind {
+        if words.len() - next < behind {
             return refused(8, i as u32);
         }
-        i = i + 1 + behind;
+        i = next + behind;
         total = total + 2 * extent.writes;
     }
     OutputAnswer {

@@ -26,8 +26,9 @@ returns : tie.Need-returns
 returns c =
     let u = c .before .before .before .before .before in
     let p = c .put-refused in
-    let e = refused-report (u .before .before .before .before .args .input .now) (u .unpack-bytes .result) _ _ (u .before .before .longest-log .ensures)
-    (u .unpack-bytes .ensures) (c .before .before .if1 .taken) in
+    let made = u .before .before in
+    let e = refused-report (made .before .before .args .input .now) (u .unpack-bytes .result) _ _
+    (made .longest-log .ensures) (u .unpack-bytes .ensures) (c .before .before .if1 .taken) in
     let r = u .unpack-bytes .result in
     reported e (p .ensures) (omega (arith, length-refusedLine (r .number) (r .place)))
 
@@ -37,7 +38,8 @@ cast-length c = search needs
 -- the log fits its buffer, which keeps its length
 fits : (c : tie.After-unpack-bytes) → c .unpack-bytes .result .length ≤ 32768
 fits c =
-    log-fits (c .before .before .before .before .args .input .now) (c .unpack-bytes .result) _ _ (c .before .before .longest-log .ensures)
+    let made = c .before .before in
+    log-fits (made .before .before .args .input .now) (c .unpack-bytes .result) _ _ (made .longest-log .ensures)
     (c .unpack-bytes .ensures)
 
 kept : (c : tie.After-unpack-bytes) → length (c .unpack-bytes .last .1 .0) ≡ 32768
@@ -49,7 +51,9 @@ lent : (c : tie.After-unpack-bytes)
 lent c = length-take-le (c .unpack-bytes .result .length) (c .unpack-bytes .last .1 .0) (omega (arith, fits c, kept c))
 
 array-share-prefix-log : tie.Need-array-share-prefix-log
-array-share-prefix-log c = omega (arith, fits (c .before .before .before .before .before), kept (c .before .before .before .before .before))
+array-share-prefix-log c =
+    let u = c .before .before .before .before .before in
+    omega (arith, fits u, kept u)
 
 slice-aggregate-put-ports : tie.Need-slice-aggregate-put-ports
 slice-aggregate-put-ports c = sym (lent (c .before .before .before .before .before .before))
@@ -64,8 +68,9 @@ returns-2 : tie.Need-returns-2
 returns-2 c =
     let u = c .before .before .before .before .before .before .before in
     let p = c .put-ports in
-    let e = log-report (u .before .before .before .before .args .input .now) (u .unpack-bytes .result) _ _ (u .before .before .longest-log .ensures)
-    (u .unpack-bytes .ensures) (c .before .before .before .before .if1 .left) in
+    let made = u .before .before in
+    let e = log-report (made .before .before .args .input .now) (u .unpack-bytes .result) _ _
+    (made .longest-log .ensures) (u .unpack-bytes .ensures) (c .before .before .before .before .if1 .left) in
     let log = take (u .unpack-bytes .result .length) (u .unpack-bytes .last .1 .0) in
     reported e (p .ensures) (omega (arith, report-fits log (omega (arith, lent u, fits u))))
 

@@ -1,13 +1,13 @@
 -- `unpacker::extent_of` meets its contract. Assumes nothing.
-use mathlib.Core.Path.{_≡_, sym, _∙_}
 use mathlib.Core.Bool.{true}
+use mathlib.Core.Path.{_≡_, sym, _∙_}
 use Prim.Native.Nat.{_+_, _/_, _%_, _<_}
+use native.Mathlib.Omega.{arith}
 use lib.Dec.{eqb}
+use borrow.Author.Needs.{needs}
 use Rattle.commands.specs.Commands.{known}
 use Rattle.commands.proofs.Table.{known-range, count-small}
 use Rattle.unpacker.proofs.ExtentLaws.{one-most, Extending, extent-start, extent-bounds, extent-more, extent-end}
-use native.Mathlib.Omega.{arith}
-use borrow.Author.Needs.{needs}
 use Rattle.unpacker.proofs.extent_of.Statement.{statement}
 use Rattle.unpacker.proofs.extent_of.Tie as tie
 
@@ -33,7 +33,9 @@ count-in-requires : tie.Need-count-in-requires Inv-loop μ-loop
 count-in-requires c κs = search needs
 
 add-words : tie.Need-add-words Inv-loop μ-loop
-add-words c = omega (arith, extent-bounds (c .before .before .before .loop .inv), c .count-in .ensures, count-small (c .before .before .before .loop .queue % 256))
+add-words c =
+    let l = c .before .before .before .loop in
+    omega (arith, extent-bounds (l .inv), c .count-in .ensures, count-small (l .queue % 256))
 
 writes-for-requires : tie.Need-writes-for-requires Inv-loop μ-loop
 writes-for-requires c κs = search needs
@@ -42,10 +44,12 @@ writes-for-requires c κs = search needs
 turn : (c : tie.After-writes-for Inv-loop μ-loop) → let a = c .before .before .before .before .before .args in
     let l = c .before .before .before .before .loop in
     let n = c .before .count-in .result in
-    (l .queue / 256 < l .queue) × Extending (a .word) (l .queue / 256) (l .words + n) (l .writes + c .writes-for .result) (eqb n 0)
+    (l .queue / 256 < l .queue)
+    × Extending (a .word) (l .queue / 256) (l .words + n) (l .writes + c .writes-for .result) (eqb n 0)
 turn c =
-    let l = c .before .before .before .before .loop in
-    let k : known (l .queue % 256) ≡ true = sym (c .before .before .before .is-known-in .ensures) ∙ c .before .before .if1 .taken in (
+    let test = c .before .before in
+    let l = test .before .before .loop in
+    let k : known (l .queue % 256) ≡ true = sym (test .before .is-known-in .ensures) ∙ test .if1 .taken in (
       omega (arith, known-range (l .queue % 256) k),
       extent-more (l .inv) k _ _ (c .before .count-in .ensures) (c .writes-for .ensures),
     )
@@ -63,10 +67,15 @@ one-if-requires : tie.Need-one-if-requires Inv-loop μ-loop
 one-if-requires c κs = search needs
 
 add-t13 : tie.Need-add-t13 Inv-loop μ-loop
-add-t13 c = omega (arith, extent-bounds (c .before .before .before .loop .inv), c .one-if .ensures, one-most (c .before .before .before .loop .none))
+add-t13 c =
+    let l = c .before .before .before .loop in
+    omega (arith, extent-bounds (l .inv), c .one-if .ensures, one-most (l .none))
 
 returns : tie.Need-returns Inv-loop μ-loop
-returns c = extent-end (c .before .before .before .loop .inv) (sym (c .before .before .is-known-in .ensures) ∙ c .before .if1 .left) _ (c .one-if .ensures)
+returns c =
+    let test = c .before in
+    extent-end (test .before .before .loop .inv) (sym (test .before .is-known-in .ensures) ∙ test .if1 .left) _
+    (c .one-if .ensures)
 
 pub extent-of-spec : {M : Type 1} → statement M
 extent-of-spec =

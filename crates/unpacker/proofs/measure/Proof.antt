@@ -1,13 +1,13 @@
 -- `unpacker::measure` meets its contract. Assumes nothing.
+use mathlib.Core.Bool.{true, false}
 use mathlib.Core.Path.{_≡_, sym, ap, _∙_}
-use mathlib.Core.Bool.{false}
 use Prim.Native.Nat.{_-_, _≤_}
-use lib.ListN.{length, getD}
-use Rattle.commands.specs.Commands.{commandBytes, hole}
-use Rattle.unpacker.proofs.MeasureLaws.{Measuring, measure-start, total-small, measure-end, measure-hole, measure-short}
-use Rattle.unpacker.proofs.MeasureLaws.{word-small, measure-more}
 use native.Mathlib.Omega.{arith}
+use lib.ListN.{length, getD}
 use borrow.Author.Needs.{needs}
+use Rattle.commands.specs.Commands.{commandBytes, hole}
+use Rattle.unpacker.proofs.MeasureLaws.{Measuring, measure-start, total-small, measure-end, measure-hole}
+use Rattle.unpacker.proofs.MeasureLaws.{measure-short, word-small, measure-more}
 use Rattle.unpacker.proofs.measure.Statement.{statement}
 use Rattle.unpacker.proofs.measure.Tie as tie
 
@@ -26,6 +26,9 @@ mul-word c = search needs
 shared-slice-read-word : tie.Need-shared-slice-read-word Inv-loop μ-loop
 shared-slice-read-word c = search needs
 
+add-next : tie.Need-add-next Inv-loop μ-loop
+add-next c = search needs
+
 command-bytes-in-requires : tie.Need-command-bytes-in-requires Inv-loop μ-loop
 command-bytes-in-requires c κs = search needs
 
@@ -38,25 +41,23 @@ cast-refused c = omega (arith, c .before .before .before .before .before .loop .
 refused-requires : tie.Need-refused-requires Inv-loop μ-loop
 refused-requires c κs = search needs
 
+-- what the test said of the word
+tested : (c : tie.After-has-hole Inv-loop μ-loop) → let l = c .before .before .before .before in
+    hole (commandBytes (getD (l .before .before .args .words .now) (l .loop .i) 0)) ≡ c .has-hole .result
+tested c = ap hole (sym (c .before .command-bytes-in .ensures)) ∙ sym (c .has-hole .ensures)
+
 returns : tie.Need-returns Inv-loop μ-loop
 returns c =
+    let t = c .before .before in
+    let l = t .before .before .before .before in
     c .refused .ensures
-    ∙ measure-hole (c .before .before .before .before .before .before .loop .inv) (c .before .before .before .before .before .loop-test .taken)
-    (ap hole (sym (c .before .before .before .command-bytes-in .ensures)) ∙ sym (c .before .before .has-hole .ensures) ∙ c .before .if1 .taken)
-
--- the word has no hole
-no-hole : (c : tie.Else1 Inv-loop μ-loop)
-    → hole (commandBytes (getD (c .before .before .before .before .before .before .before .args .words .now) (c .before .before .before .before .before .loop .i) 0)) ≡ false
-no-hole c = ap hole (sym (c .before .before .command-bytes-in .ensures)) ∙ sym (c .before .has-hole .ensures) ∙ c .if1 .left
+    ∙ measure-hole (l .loop .inv) (t .before .before .before .loop-test .taken) (tested t ∙ c .before .if1 .taken)
 
 extent-of-requires : tie.Need-extent-of-requires Inv-loop μ-loop
-extent-of-requires c κs = (search needs, no-hole c)
+extent-of-requires c κs = (search needs, tested (c .before) ∙ c .if1 .left)
 
 sub-if2 : tie.Need-sub-if2 Inv-loop μ-loop
 sub-if2 c = search needs
-
-sub-if2-2 : tie.Need-sub-if2-2 Inv-loop μ-loop
-sub-if2-2 c = search needs
 
 cast-refused-2 : tie.Need-cast-refused-2 Inv-loop μ-loop
 cast-refused-2 c = omega (arith, c .before .before .before .before .before .before .before .loop .inv .short)
@@ -66,42 +67,43 @@ refused-requires-2 c κs = search needs
 
 returns-2 : tie.Need-returns-2 Inv-loop μ-loop
 returns-2 c =
-    let l = c .before .before .before .before .before .before .before .before .loop in
-    let h = c .before .before .before .before .before .before .before .loop-test .taken in
-    let x = c .before .before .extent-of in
+    let x = c .before .before in
+    let t = x .before .before in
+    let l = t .before .before .before .before in
     c .refused2 .ensures
-    ∙ measure-short (l .inv) h (no-hole (c .before .before .before)) (x .result) (x .ensures) (omega (arith, c .before .if2 .taken))
+    ∙ measure-short (l .loop .inv) (t .before .before .before .loop-test .taken) (tested t ∙ x .before .if1 .left)
+    (x .extent-of .result) (x .extent-of .ensures) (omega (arith, c .before .if2 .taken))
 
 add-i : tie.Need-add-i Inv-loop μ-loop
-add-i c = search needs
-
-add-i-2 : tie.Need-add-i-2 Inv-loop μ-loop
-add-i-2 c = omega (arith, c .if2 .left, c .before .before .before .before .before .before .loop-test .taken)
+add-i c = omega (arith, c .if2 .left, c .before .before .before .before .before .before .loop-test .taken)
 
 -- its port writes and those before it are few
-small : (c : tie.After-struct-known Inv-loop μ-loop) → let l = c .before .before .before .before .before .before .before .before .loop in
-    (c .before .before .extent-of .result .writes ≤ 132) × (l .total ≤ 32768)
+small : (c : tie.After-extent-of Inv-loop μ-loop)
+    → (c .extent-of .result .writes ≤ 132) × (c .before .before .before .before .before .before .loop .total ≤ 32768)
 small c =
-    let l = c .before .before .before .before .before .before .before .before .loop in
-    let x = c .before .before .extent-of in
-    let h = c .before .before .before .before .before .before .before .loop-test .taken in
-    (word-small (l .inv) h (no-hole (c .before .before .before)) (x .result) (x .ensures) .1, total-small (l .inv))
+    let t = c .before .before in
+    let l = t .before .before .before .before in
+    let x = c .extent-of in
+    let h = t .before .before .before .loop-test .taken in
+    let w = word-small (l .loop .inv) h (tested t ∙ c .before .if1 .left) (x .result) (x .ensures) in
+    (w .1, total-small (l .loop .inv))
 
 mul-total : tie.Need-mul-total Inv-loop μ-loop
-mul-total c = omega (arith, small c)
+mul-total c = omega (arith, small (c .before .before))
 
 add-total : tie.Need-add-total Inv-loop μ-loop
-add-total c = omega (arith, small c)
+add-total c = omega (arith, small (c .before .before))
 
 loop-less : tie.Need-loop-less Inv-loop μ-loop
 loop-less c = omega (arith, c .before .before .before .before .before .before .before .loop-test .taken)
 
 loop-again : tie.Need-loop-again Inv-loop μ-loop
 loop-again c =
-    let l = c .before .before .before .before .before .before .before .before .loop in
-    let h = c .before .before .before .before .before .before .before .loop-test .taken in
-    let x = c .before .before .extent-of in
-    measure-more (l .inv) h (no-hole (c .before .before .before)) (x .result) (x .ensures) (omega (arith, c .before .if2 .left))
+    let x = c .before .before in
+    let t = x .before .before in
+    let l = t .before .before .before .before in
+    measure-more (l .loop .inv) (t .before .before .before .loop-test .taken) (tested t ∙ x .before .if1 .left)
+    (x .extent-of .result) (x .extent-of .ensures) (omega (arith, c .before .if2 .left))
 
 cast-t19 : tie.Need-cast-t19 Inv-loop μ-loop
 cast-t19 c = omega (arith, total-small (c .before .loop .inv))
@@ -118,6 +120,7 @@ measure-spec =
     loop-holds
     mul-word
     shared-slice-read-word
+    add-next
     command-bytes-in-requires
     has-hole-requires
     cast-refused
@@ -125,12 +128,10 @@ measure-spec =
     returns
     extent-of-requires
     sub-if2
-    sub-if2-2
     cast-refused-2
     refused-requires-2
     returns-2
     add-i
-    add-i-2
     mul-total
     add-total
     loop-less

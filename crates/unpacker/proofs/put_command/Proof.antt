@@ -1,14 +1,14 @@
 -- `unpacker::put_command` meets its contract. Assumes nothing.
-use Prim.Native.Nat.{_+_, _*_, _-_}
 use mathlib.Core.Path.{_≡_, refl, _∙_}
+use Prim.Native.Nat.{_+_, _*_, _-_}
 use native.Mathlib.Numerals.{add-one}
-use lib.ListN.{length, length-set}
+use native.Mathlib.Omega.{arith}
+use lib.ListN.{length-set}
+use borrow.Author.Needs.{needs}
 use borrow.Author.Tests.{eq-eqb, ne-eqb}
 use Rattle.unpacker.specs.Inside.{writesFor}
 use Rattle.unpacker.proofs.ExtentLaws.{writes-for-none, writes-for-some}
 use Rattle.unpacker.proofs.PutLaws.{Putting, put-more}
-use native.Mathlib.Omega.{arith}
-use borrow.Author.Needs.{needs}
 use Rattle.unpacker.proofs.put_command.Statement.{statement}
 use Rattle.unpacker.proofs.put_command.Tie as tie
 
@@ -53,10 +53,9 @@ same-length c = search needs
 
 returns : tie.Need-returns Inv-loop μ-loop
 returns c =
-    let n = c .before .before .before .before .args .count in
-    let z = eq-eqb n 0 (c .if1 .taken) in
-    let r : c .before .before .before .before .args .to + 2 ≡ c .before .before .before .before .args .to + 2 * writesFor n = omega (arith, none-one c) in
-    (r, rw (z, c .before .port-of .ensures, add-one (c .before .before .before .before .args .to)))
+    let a = c .before .before .before .before .args in
+    let r : a .to + 2 ≡ a .to + 2 * writesFor (a .count) = omega (arith, none-one c) in
+    (r, rw (eq-eqb (a .count) 0 (c .if1 .taken), c .before .port-of .ensures, add-one (a .to)))
 
 loop-holds : tie.Need-loop-holds Inv-loop μ-loop
 loop-holds c =
@@ -126,11 +125,11 @@ same-length-2 c = c .before .loop .inv .same
 returns-2 : tie.Need-returns-2 Inv-loop μ-loop
 returns-2 c =
     let p = c .before .loop .inv in
-    let s = c .before .before .before .before .before .before in
-    let n = s .args .count in
-    let e : c .before .loop .j ≡ n = omega (arith, p .most, c .loop-test .left) in
-    let r : s .args .to + 2 * n ≡ s .args .to + 2 * writesFor n = omega (arith, some-more (c .before .before)) in
-    (r, rw (ne-eqb n 0 (c .before .before .if1 .left)) (p .buffer ∙ rw (e, c .before .before .before .port-of .ensures)))
+    let test = c .before .before in
+    let a = test .before .before .before .before .args in
+    let e : c .before .loop .j ≡ a .count = omega (arith, p .most, c .loop-test .left) in
+    let r : a .to + 2 * a .count ≡ a .to + 2 * writesFor (a .count) = omega (arith, some-more test) in
+    (r, rw (ne-eqb (a .count) 0 (test .if1 .left)) (p .buffer ∙ rw (e, test .before .port-of .ensures)))
 
 pub put-command-spec : {M : Type 1} → statement M
 put-command-spec =

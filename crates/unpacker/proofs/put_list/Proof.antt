@@ -1,12 +1,12 @@
 -- `unpacker::put_list` meets its contract. Assumes nothing.
 use Prim.Native.Nat.{_-_}
+use native.Mathlib.Omega.{arith}
 use lib.ListN.{length}
+use borrow.Author.Needs.{needs}
 use Rattle.stream.specs.Read.{listCommands}
 use Rattle.stream.specs.Pack.{orNone}
-use Rattle.unpacker.proofs.PutLaws as PutLaws
-use Rattle.unpacker.proofs.PutLaws.{PuttingList, put-list-start, word-fits, put-list-next, put-list-more, put-list-end}
-use native.Mathlib.Omega.{arith}
-use borrow.Author.Needs.{needs}
+use Rattle.unpacker.proofs.PutLaws.{PuttingList, put-list-start, kept-length, word-fits, put-list-next}
+use Rattle.unpacker.proofs.PutLaws.{put-list-more, put-list-end}
 use Rattle.unpacker.proofs.put_list.Statement.{statement}
 use Rattle.unpacker.proofs.put_list.Tie as tie
 
@@ -27,17 +27,19 @@ put-word-requires c κs = (search needs, word-fits (c .before .before .loop .inv
 
 loop-less : tie.Need-loop-less Inv-loop μ-loop
 loop-less c =
-    let h = c .before .before .before .before .loop-test .taken in
-    let w = c .before .before .put-word in
-    omega (arith, put-list-next (c .before .before .before .before .before .loop .inv) h _ (w .result) (w .ensures), h)
+    let put = c .before .before .put-word in
+    let test = c .before .before .before .before in
+    let h = test .loop-test .taken in
+    omega (arith, put-list-next (test .before .loop .inv) h _ (put .result) (put .ensures), h)
 
 loop-again : tie.Need-loop-again Inv-loop μ-loop
 loop-again c =
-    let w = c .before .before .put-word in
-    put-list-more (c .before .before .before .before .before .loop .inv) (c .before .before .before .before .loop-test .taken) _ (w .result) (w .ensures)
+    let put = c .before .before .put-word in
+    let test = c .before .before .before .before in
+    put-list-more (test .before .loop .inv) (test .loop-test .taken) _ (put .result) (put .ensures)
 
 same-length : tie.Need-same-length Inv-loop μ-loop
-same-length c = PutLaws.same-length (c .before .loop .inv)
+same-length c = kept-length (c .before .loop .inv)
 
 returns : tie.Need-returns Inv-loop μ-loop
 returns c = put-list-end (c .before .loop .inv) (c .loop-test .left)

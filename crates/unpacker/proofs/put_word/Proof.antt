@@ -1,17 +1,19 @@
 -- `unpacker::put_word` meets its contract. Assumes nothing.
-use mathlib.Core.Path.{_≡_, sym, _∙_}
 use mathlib.Core.Bool.{true, false}
+use mathlib.Core.Path.{_≡_, sym, _∙_}
 use Prim.Native.Nat.{_%_}
-use Rattle.commands.specs.Commands.{known}
-use Rattle.commands.proofs.Table.{known-range}
-use Rattle.unpacker.proofs.PutLaws.{PuttingWord, put-word-start, enough, command-room, put-word-more, word-end, put-word-end}
 use native.Mathlib.Omega.{arith}
 use borrow.Author.Needs.{needs}
+use Rattle.commands.specs.Commands.{known}
+use Rattle.commands.proofs.Table.{known-range}
+use Rattle.unpacker.proofs.PutLaws.{PuttingWord, put-word-start, enough, command-room, put-word-more}
+use Rattle.unpacker.proofs.PutLaws.{word-end, put-word-end}
 use Rattle.unpacker.proofs.put_word.Statement.{statement}
 use Rattle.unpacker.proofs.put_word.Tie as tie
 
 abbrev Inv-loop : tie.InvT-loop
-Inv-loop table words i buffer₀ to queue₀ next₀ end₀ none₀ buffer queue next end none = PuttingWord words i to buffer₀ queue next end none buffer
+Inv-loop table words i buffer₀ to queue₀ next₀ end₀ none₀ buffer queue next end none =
+    PuttingWord words i to buffer₀ queue next end none buffer
 
 abbrev μ-loop : tie.MeasureT-loop
 μ-loop table words i buffer₀ to queue₀ next₀ end₀ none₀ buffer queue next end none = queue
@@ -51,26 +53,34 @@ no-command c = sym (c .before .is-known-in .ensures) ∙ c .if1 .left
 
 put-command-requires : tie.Need-put-command-requires Inv-loop μ-loop
 put-command-requires c κs =
-    let p = c .before .before .before .before .loop .inv in
-    let k = is-command (c .before .before) in
-    (enough p k _ (c .before .count-in .ensures), command-room p k _ (c .before .count-in .ensures))
+    let n = c .before in
+    let k = is-command (n .before) in
+    let p = n .before .before .before .loop .inv in
+    (enough p k _ (n .count-in .ensures), command-room p k _ (n .count-in .ensures))
 
 add-next-2 : tie.Need-add-next-2 Inv-loop μ-loop
-add-next-2 c = omega (arith, enough (c .before .before .before .before .before .before .before .loop .inv) (is-command (c .before .before .before .before .before)) _ (c .before .before .before .before .count-in .ensures))
+add-next-2 c =
+    let n = c .before .before .before .before in
+    omega (arith, enough (n .before .before .before .loop .inv) (is-command (n .before)) _ (n .count-in .ensures))
 
 loop-less : tie.Need-loop-less Inv-loop μ-loop
-loop-less c = omega (arith, known-range (c .before .before .before .before .before .before .before .loop .queue % 256) (is-command (c .before .before .before .before .before)))
+loop-less c =
+    let n = c .before .before .before .before in
+    omega (arith, known-range (n .before .before .before .loop .queue % 256) (is-command (n .before)))
 
 loop-again : tie.Need-loop-again Inv-loop μ-loop
 loop-again c =
-    put-word-more (c .before .before .before .before .before .before .before .loop .inv) (is-command (c .before .before .before .before .before)) _ (c .before .before .before .before .count-in .ensures) _ _
-    (c .before .before .put-command .ensures .0) (c .before .before .put-command .ensures .1)
+    let put = c .before .before .put-command in
+    let n = c .before .before .before .before in
+    put-word-more (n .before .before .before .loop .inv) (is-command (n .before)) _ (n .count-in .ensures) _ _
+    (put .ensures .0) (put .ensures .1)
 
 one-if-requires : tie.Need-one-if-requires Inv-loop μ-loop
 one-if-requires c κs = search needs
 
 add-t20 : tie.Need-add-t20 Inv-loop μ-loop
-add-t20 c = omega (arith, word-end (c .before .before .before .loop .inv) (no-command (c .before)) _ (c .one-if .ensures))
+add-t20 c =
+    omega (arith, word-end (c .before .before .before .loop .inv) (no-command (c .before)) _ (c .one-if .ensures))
 
 same-length : tie.Need-same-length Inv-loop μ-loop
 same-length c = c .before .before .before .loop .inv .same

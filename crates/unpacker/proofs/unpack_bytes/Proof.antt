@@ -2,16 +2,16 @@
 use mathlib.Core.List.{_++_}
 use mathlib.Core.Path.{_≡_, sym, ap, subst, _∙_}
 use Prim.Native.Nat.{_/_, _<_}
+use native.Mathlib.Omega.{arith}
 use lib.ListN.{length, take, drop}
 use lib.Seq.{length-take-le, length-front}
+use borrow.Author.Needs.{needs}
 use Rattle.words.specs.Words.{wordsOf}
 use Rattle.words.proofs.Words.{length-wordsOf, read-all}
 use Rattle.stream.specs.Output.{Output, Stores}
 use Rattle.stream.specs.Unpack.{unpack}
 use Rattle.stream.proofs.OutputLaws.{stores-none, not-whole-words, whole-words}
 use Rattle.unpacker.proofs.CallLaws.{too-long}
-use native.Mathlib.Omega.{arith}
-use borrow.Author.Needs.{needs}
 use Rattle.unpacker.proofs.unpack_bytes.Statement.{statement}
 use Rattle.unpacker.proofs.unpack_bytes.Tie as tie
 
@@ -32,8 +32,9 @@ returns-2 c =
     let a = c .before .before .before .before .before .args in
     let n = length (a .output .now) in
     let e = whole-words (unpack n) (a .input .now) (c .before .before .if1 .left) in
-    let h : 8192 < length (wordsOf (a .input .now)) = omega (arith, length-wordsOf (a .input .now), c .before .if2 .taken) in
-    stores-none 7 0 (c .refused2 .result) (a .output .now) (e ∙ too-long 0 n (wordsOf (a .input .now)) h) (c .refused2 .ensures)
+    let words = wordsOf (a .input .now) in
+    let h : 8192 < length words = omega (arith, length-wordsOf (a .input .now), c .before .if2 .taken) in
+    stores-none 7 0 (c .refused2 .result) (a .output .now) (e ∙ too-long 0 n words h) (c .refused2 .ensures)
 
 longest-list-requires : tie.Need-longest-list-requires
 longest-list-requires c κs = search needs
@@ -48,21 +49,29 @@ read-words-requires : tie.Need-read-words-requires
 read-words-requires c κs = search needs
 
 -- what is lent to the unpacker: the words of the input
-words-lent : (c : tie.After-words2) → let bytes = c .before .before .before .before .before .before .before .before .args .input .now in
-    take (length bytes / 4)
-    (c .before .read-words .last .1 .0 ++ drop (length bytes / 4) (c .before .before .before .longest-list .result)) ≡ wordsOf bytes
+words-lent : (c : tie.After-words2)
+    → let made = c .before .before .before in
+    let bytes = made .before .before .before .before .before .args .input .now in
+    let n = length bytes / 4 in
+    take n (c .before .read-words .last .1 .0 ++ drop n (made .longest-list .result)) ≡ wordsOf bytes
 words-lent c =
-    let bytes = c .before .before .before .before .before .before .before .before .args .input .now in
-    let made = c .before .before .before .longest-list .result in
-    read-all bytes (take (length bytes / 4) made) (drop (length bytes / 4) made) (c .before .read-words .last .1 .0)
-    (length-take-le (length bytes / 4) made (omega arith)) (c .before .read-words .ensures)
+    let made = c .before .before .before in
+    let bytes = made .before .before .before .before .before .args .input .now in
+    let n = length bytes / 4 in
+    let blank = made .longest-list .result in
+    read-all bytes (take n blank) (drop n blank) (c .before .read-words .last .1 .0)
+    (length-take-le n blank (omega arith)) (c .before .read-words .ensures)
 
 array-share-prefix-words : tie.Need-array-share-prefix-words
 array-share-prefix-words c =
-    rw (length-front (c .before .before .before .longest-list .result) (c .before .read-words .last .1 .0) _ (c .before .read-words .kept .1 .0)) (omega arith)
+    let made = c .before .before .before .longest-list .result in
+    rw (length-front made (c .before .read-words .last .1 .0) _ (c .before .read-words .kept .1 .0)) (omega arith)
 
 slice-aggregate-unpack : tie.Need-slice-aggregate-unpack
-slice-aggregate-unpack c = rw (words-lent (c .before)) (omega (arith, length-wordsOf (c .before .before .before .before .before .before .before .before .before .args .input .now)))
+slice-aggregate-unpack c =
+    let made = c .before .before .before .before in
+    let bytes = made .before .before .before .before .before .args .input .now in
+    rw (words-lent (c .before)) (omega (arith, length-wordsOf bytes))
 
 unpack-requires : tie.Need-unpack-requires
 unpack-requires c κs = search needs
@@ -72,10 +81,12 @@ same-length c = search needs
 
 returns-3 : tie.Need-returns-3
 returns-3 c =
-    let a = c .before .before .before .before .before .before .before .before .before .before .before .before .before .args in
+    let made = c .before .before .before .before .before .before .before .before in
+    let test = made .before .before in
+    let a = test .before .before .before .args in
     let n = length (a .output .now) in
     let u = c .before .before .unpack in
-    let e = whole-words (unpack n) (a .input .now) (c .before .before .before .before .before .before .before .before .before .before .if1 .left) in
+    let e = whole-words (unpack n) (a .input .now) (test .if1 .left) in
     subst (λ (o : Output). Stores o (u .result) (a .output .now) (u .last .1 .0))
     (ap (unpack n) (words-lent (c .before .before .before .before .before)) ∙ sym e) (u .ensures)
 

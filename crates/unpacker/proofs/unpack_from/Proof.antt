@@ -1,9 +1,9 @@
 -- `unpacker::unpack_from` meets its contract. Assumes nothing.
+use native.Mathlib.Omega.{arith}
 use lib.ListN.{length}
+use borrow.Author.Needs.{needs}
 use Rattle.stream.proofs.OutputLaws.{stores-none}
 use Rattle.unpacker.proofs.CallLaws.{too-long, refused-reading, Accepted, accepted, too-small, stores-log}
-use native.Mathlib.Omega.{arith}
-use borrow.Author.Needs.{needs}
 use Rattle.unpacker.proofs.unpack_from.Statement.{statement}
 use Rattle.unpacker.proofs.unpack_from.Tie as tie
 
@@ -24,10 +24,11 @@ measure-requires c κs = search needs
 
 returns-2 : tie.Need-returns-2
 returns-2 c =
-    let a = c .before .before .before .before .before .before .before .before .args in
-    let m = c .before .before .measure in
-    refused-reading (a .place) (length (a .output .now)) (a .words .now) (c .before .before .before .before .before .if1 .left) (m .result) (m .ensures)
-    (c .if2 .taken) (a .output .now)
+    let m = c .before .before in
+    let test = m .before .before .before in
+    let a = test .before .before .before .args in
+    refused-reading (a .place) (length (a .output .now)) (a .words .now) (m .measure .result) (test .if1 .left)
+    (m .measure .ensures) (c .if2 .taken) (a .output .now)
 
 cast-if3 : tie.Need-cast-if3
 cast-if3 c = search needs
@@ -37,20 +38,19 @@ refused-requires-2 c κs = search needs
 
 -- nothing is wrong with the list
 is-accepted : (c : tie.Else2) → let a = c .before .before .before .before .before .before .before .before .args in
-    Accepted (a .place) (length (a .output .now)) (a .words .now) (c .before .before .before .before .before .if1 .left) (c .before .before .measure .result) (c .before .before .measure .ensures)
+    Accepted (a .place) (a .words .now) (c .before .before .measure .result)
 is-accepted c =
-    let a = c .before .before .before .before .before .before .before .before .args in
-    let m = c .before .before .measure in
-    accepted (a .place) (length (a .output .now)) (a .words .now) (c .before .before .before .before .before .if1 .left) (m .result) (m .ensures) (c .if2 .left)
+    let m = c .before .before in
+    let test = m .before .before .before in
+    let a = test .before .before .before .args in
+    accepted (a .place) (a .words .now) (m .measure .result) (test .if1 .left) (m .measure .ensures) (c .if2 .left)
 
 returns-3 : tie.Need-returns-3
 returns-3 c =
     let e = c .before .before .before in
-    let a = e .before .before .before .before .before .before .before .before .args in
-    let m = e .before .before .measure in
-    stores-none 10 0 (c .refused2 .result) (a .output .now)
-    (too-small (a .place) (length (a .output .now)) (a .words .now) (e .before .before .before .before .before .if1 .left) (m .result) (m .ensures) (is-accepted e)
-    (c .before .if3 .taken)) (c .refused2 .ensures)
+    let output = e .before .before .before .before .before .before .before .before .args .output .now in
+    stores-none 10 0 (c .refused2 .result) output
+    (too-small (length output) (is-accepted e) (c .before .if3 .taken)) (c .refused2 .ensures)
 
 put-list-requires : tie.Need-put-list-requires
 put-list-requires c κs =
@@ -62,11 +62,10 @@ same-length c = search needs
 
 returns-4 : tie.Need-returns-4
 returns-4 c =
-    let e = c .before .before .before .before .before .before .before in
-    let a = e .before .before .before .before .before .before .before .before .args in
-    let m = e .before .before .measure in
-    stores-log (a .place) (length (a .output .now)) (a .words .now) (e .before .before .before .before .before .if1 .left) (m .result) (m .ensures) (is-accepted e)
-    (c .before .before .before .before .before .if3 .left) (a .output .now) _ (c .before .before .put-list .ensures)
+    let t = c .before .before .before .before .before in
+    let e = t .before .before in
+    let output = e .before .before .before .before .before .before .before .before .args .output .now in
+    stores-log (length output) (is-accepted e) (t .if3 .left) output _ (c .before .before .put-list .ensures)
 
 pub unpack-from-spec : {M : Type 1} → statement M
 unpack-from-spec =
