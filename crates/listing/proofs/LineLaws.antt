@@ -9,7 +9,7 @@ use Rattle.stream.specs.Command.{Write, write}
 use Rattle.stream.specs.Read.{writes}
 use Rattle.stream.proofs.UnpackLaws.{length-writes}
 use Rattle.listing.specs.Text.{writeLine, writeLines, portsText, refusedLine}
-use Rattle.listing.specs.Inside.{Puts}
+use Rattle.listing.specs.Buffer.{Puts}
 use Rattle.listing.proofs.PutLaws.{puts-both}
 use Rattle.listing.proofs.NumberLaws.{length-hex, length-decimal}
 

@@ -10,7 +10,7 @@ use lib.ListN.{length, length-append}
 use borrow.Author.Tests.{lt-ltb, le-ltb, ltb-true, ltb-false}
 use Rattle.io.specs.Digits.{digits, glyph, Fewest}
 use Rattle.listing.specs.Text.{decimalIn, decimal, hex8}
-use Rattle.listing.specs.Inside.{Puts}
+use Rattle.listing.specs.Buffer.{Puts}
 
 length-digits : (b k n : ℕ) → length (digits b k n) ≡ k
 length-digits b zero n = refl

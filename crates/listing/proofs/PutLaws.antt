@@ -6,7 +6,7 @@ use native.Mathlib.Omega.{arith}
 use lib.ListN.{length, getD, take, set, length-append}
 use lib.Seq.{length-sets}
 use Rattle.words.proofs.Over.{sets-append, take-next}
-use Rattle.listing.specs.Inside.{Puts}
+use Rattle.listing.specs.Buffer.{Puts}
 
 -- a put keeps the buffer's length
 pub puts-kept : {new : List ℕ} {at next : ℕ} {old text : List ℕ} → Puts new at next old text → length text ≡ length old

@@ -1,12 +1,10 @@
 // The text that the programs print, put into a buffer of bytes.
-ghost use mathlib.Core.Path.{_≡_};
-ghost use mathlib.Core.List.{_++_};
 ghost use Prim.Native.Nat.{_+_, _*_, _/_, _≤_};
 ghost use lib.ListN.{length};
 ghost use Rattle.stream.specs.Command.{write};
 ghost use Rattle.stream.specs.Read.{writes};
 ghost use Rattle.listing.specs.Text.{decimal, hex8, writeLine, writeLines, portsText, refusedLine};
-ghost use Rattle.listing.specs.Inside.{Puts};
+ghost use Rattle.listing.specs.Buffer.{Puts};
 
 // Every function here stores its text in the buffer from `at` on and answers where the next goes. Each is for the
 // crates above, which have a buffer that is long enough.

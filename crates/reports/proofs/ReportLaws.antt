@@ -1,6 +1,6 @@
 -- The report of a call's output, from the answer and the output buffer. Assumes nothing.
 use mathlib.Core.List.{List}
-use mathlib.Core.Path.{_≡_, sym, ap, subst, _∙_}
+use mathlib.Core.Path.{_≡_, sym, ap, _∙_}
 use Prim.Native.Nat.{ℕ, _≤_}
 use native.Mathlib.Omega.{arith}
 use lib.ListN.{length, take}
@@ -8,7 +8,7 @@ use lib.Seq.{length-take-le}
 use borrow.Author.Tests.{eq-eqb, ne-eqb}
 use Rattle.io.specs.Counts.{Counts}
 use Rattle.words.specs.Words.{over}
-use Rattle.words.proofs.Over.{take-over}
+use Rattle.words.proofs.Over.{sets-over, take-over}
 use Rattle.stream.specs.declared.OutputAnswer.{OutputAnswer}
 use Rattle.stream.specs.Read.{writes}
 use Rattle.stream.specs.Output.{Output, onBytes, Stores}
@@ -17,17 +17,19 @@ use Rattle.stream.proofs.UnpackLaws.{length-writes}
 use Rattle.stream.proofs.OutputLaws.{on-bytes-fits}
 use Rattle.unpacker.proofs.Capacity.{unpack-fits}
 use Rattle.listing.specs.Text.{portsText, refusedLine}
-use Rattle.listing.specs.Inside.{Puts}
+use Rattle.listing.specs.Buffer.{Puts}
 use Rattle.listing.proofs.PutLaws.{puts-kept}
 use Rattle.listing.proofs.LineLaws.{length-portsText}
 use Rattle.reports.specs.Unpack.{logReport, unpackReport}
 
--- a text at the start of a buffer that is long enough is the report, and counts bytes of the buffer
+-- the report, put at the start of a buffer that is long enough: its length, and what the buffer holds
 pub reported : {new report : List ℕ} {next : ℕ} {old text : List ℕ} → new ≡ report → Puts new 0 next old text
-    → length new ≤ length old → Puts report 0 next old text × Counts next text
+    → length new ≤ length old → (next ≡ length report) × ((text ≡ over report old) × Counts next text)
 reported {new} {report} {next} {old} {text} e p h =
     let m : next ≤ length text = omega (arith, puts-kept p, p .next-is) in
-    (subst (λ (l : List ℕ). Puts l 0 next old text) e p, (m, sym (length-take-le next text m)))
+    let n : next ≡ length report = omega (arith, p .next-is, ap length e) in
+    let t : text ≡ over report old = p .text-is ∙ rw e (sets-over old report (omega (arith, ap length e))) in
+    (n, (t, (m, sym (length-take-le next text m))))
 
 -- a log of at most 16,384 port writes fits the report's buffer
 pub report-fits : (log : List ℕ) → length log ≤ 32768 → length (portsText (writes log)) ≤ 294929

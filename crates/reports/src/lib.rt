@@ -2,7 +2,7 @@
 ghost use mathlib.Core.Path.{_≡_};
 ghost use lib.ListN.{length};
 ghost use Rattle.io.specs.Counts.{Counts};
-ghost use Rattle.listing.specs.Inside.{Puts};
+ghost use Rattle.words.specs.Words.{over};
 ghost use Rattle.reports.specs.Unpack.{unpackReport};
 use listing::put_ports;
 use listing::put_refused;
@@ -24,7 +24,8 @@ pub fn log_report_buffer() -> [u8; 294929]
 
 // What the program `unpack` writes for its input, from the buffer's first byte on; how many bytes that is.
 pub fn unpack_report(input: &[u8], text: &mut [u8; 294929]) -> usize
-    ensures { λ r. ⌜ Puts (unpackReport (now (input .entry))) 0 r (now (text .entry)) (now (text .exit)) ⌝ }
+    ensures { λ r. ⌜ r ≡ length (unpackReport (now (input .entry))) ⌝ }
+    ensures { λ r. ⌜ now (text .exit) ≡ over (unpackReport (now (input .entry))) (now (text .entry)) ⌝ }
     ensures { λ r. ⌜ Counts r (now (text .exit)) ⌝ }
 {
     let mut log = longest_log();

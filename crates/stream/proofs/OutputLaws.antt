@@ -1,6 +1,6 @@
 -- Laws of calls that fill an output buffer, and of such calls on bytes. Assumes nothing.
 use mathlib.Core.Bool.{Bool, true, false, cond}
-use mathlib.Core.List.{List, []}
+use mathlib.Core.List.{List}
 use mathlib.Core.Path.{_≡_, refl, sym, ap, _∙_}
 use Prim.Native.Nat.{ℕ, _%_, _≤_, zero-le}
 use lib.Dec.{ltb, eqb}

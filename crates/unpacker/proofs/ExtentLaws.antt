@@ -15,11 +15,10 @@ use Rattle.stream.specs.Pending.{commandsOf}
 use Rattle.stream.specs.Command.{takesNone, command}
 use Rattle.stream.specs.Pack.{countIf}
 use Rattle.stream.specs.Unpack.{commandsLog}
-use Rattle.stream.proofs.CommandLaws.{takes-none-count, takes-some-count}
+use Rattle.stream.proofs.CommandLaws.{takes-some-count}
 use Rattle.stream.proofs.StepLaws.{commands-few}
 use Rattle.stream.proofs.QueueLaws.{commands-next, hole-next, commands-none}
 use Rattle.stream.proofs.UnpackLaws.{length-commands-log, command-log, length-writes-log}
-use Rattle.unpacker.specs.declared.Extent.{Extent}
 use Rattle.unpacker.specs.Inside.{writesFor, wordsBehind, writesOf, extentOf, commandsFrom}
 
 -- a count tells whether the byte takes parameters

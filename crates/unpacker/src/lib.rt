@@ -1,20 +1,19 @@
 // The unpacker: a packed list as port writes, address and value pairs. Document 01, "Packer and unpacker". One pass
 // over the list measures, one writes.
 ghost use mathlib.Core.Path.{_≡_};
-ghost use mathlib.Core.Bool.{true, false, cond};
+ghost use mathlib.Core.Bool.{false, cond};
 ghost use mathlib.Core.List.{[], _∷_};
-ghost use Prim.Native.Nat.{_+_, _*_, _≤_, _<_};
+ghost use Prim.Native.Nat.{_+_, _*_, _≤_};
 ghost use lib.Dec.{eqb};
-ghost use lib.ListN.{length, getD, take, drop};
+ghost use lib.ListN.{length, take, drop};
 ghost use lib.Seq.{sets};
 ghost use Rattle.words.specs.Words.{over};
 ghost use Rattle.commands.specs.Commands.{port, commandBytes, hole, parameterTable};
-ghost use Rattle.stream.specs.Pending.{commandsOf};
 ghost use Rattle.stream.specs.Read.{commands, listCommands};
 ghost use Rattle.stream.specs.Output.{onBytes, Stores};
 ghost use Rattle.stream.specs.Pack.{countIf, orNone};
 ghost use Rattle.stream.specs.Unpack.{writesTo, logOf, commandsLog, unpackFrom, unpack as Unpack·unpack};
-ghost use Rattle.unpacker.specs.Inside.{writesFor, extentOf, measured, wordsBehind, commandsFrom, wordCommands};
+ghost use Rattle.unpacker.specs.Inside.{writesFor, extentOf, measured};
 ghost use Rattle.unpacker.specs.Inside.{WordFits, PutWord};
 use commands::command_bytes_in;
 use commands::count_in;

@@ -8,7 +8,7 @@ use borrow.Author.Needs.{needs}
 use Rattle.stream.specs.Read.{writes}
 use Rattle.stream.proofs.UnpackLaws.{length-writes}
 use Rattle.listing.specs.Text.{writeLines}
-use Rattle.listing.specs.Inside.{Puts}
+use Rattle.listing.specs.Buffer.{Puts}
 use Rattle.listing.proofs.LineLaws.{puts-line, length-writeLine}
 use Rattle.listing.proofs.put_writes.Statement.{statement}
 use Rattle.listing.proofs.put_writes.Tie as tie

@@ -3,7 +3,6 @@ use mathlib.Core.Path.{sym}
 use Rattle.unpacker.specs.Inside.{writesFor}
 use Rattle.unpacker.proofs.ExtentLaws.{writes-for-some}
 use native.Mathlib.Omega.{arith}
-use borrow.Author.Needs.{needs}
 use Rattle.unpacker.proofs.writes_for.Statement.{statement}
 use Rattle.unpacker.proofs.writes_for.Tie as tie
 
