@@ -60,16 +60,16 @@ fn extent_of(table: &[u8; 256], word: u32) -> Extent
     requires { ⌜ hole (commandBytes word) ≡ false ⌝ }
     ensures { λ r. ⌜ r ≡ extentOf word ⌝ }
 {
-    let mut queue = word;
+    let mut rest = word;
     let mut words: usize = 0;
     let mut writes: usize = 0;
     let mut none = false;
-    while is_known_in(table, (queue % 256) as u8) {
-        let count = count_in(table, (queue % 256) as u8);
+    while is_known_in(table, (rest % 256) as u8) {
+        let count = count_in(table, (rest % 256) as u8);
         words = words + count;
         writes = writes + writes_for(count);
         none = count == 0;
-        queue = queue / 256;
+        rest = rest / 256;
     }
     Extent {
         words: words + one_if(none),

@@ -12,10 +12,10 @@ use Rattle.unpacker.proofs.extent_of.Statement.{statement}
 use Rattle.unpacker.proofs.extent_of.Tie as tie
 
 abbrev Inv-loop : tie.InvT-loop
-Inv-loop table word queue₀ words₀ writes₀ none₀ queue words writes none = Extending word queue words writes none
+Inv-loop table word rest₀ words₀ writes₀ none₀ rest words writes none = Extending word rest words writes none
 
 abbrev μ-loop : tie.MeasureT-loop
-μ-loop table word queue₀ words₀ writes₀ none₀ queue words writes none = queue
+μ-loop table word rest₀ words₀ writes₀ none₀ rest words writes none = rest
 
 loop-holds : tie.Need-loop-holds Inv-loop μ-loop
 loop-holds c = extent-start (c .args .word) (omega arith) (c .pre .1)
@@ -35,7 +35,7 @@ count-in-requires c κs = search needs
 add-words : tie.Need-add-words Inv-loop μ-loop
 add-words c =
     let l = c .before .before .before .loop in
-    omega (arith, extent-bounds (l .inv), c .count-in .ensures, count-small (l .queue % 256))
+    omega (arith, extent-bounds (l .inv), c .count-in .ensures, count-small (l .rest % 256))
 
 writes-for-requires : tie.Need-writes-for-requires Inv-loop μ-loop
 writes-for-requires c κs = search needs
@@ -44,13 +44,13 @@ writes-for-requires c κs = search needs
 turn : (c : tie.After-writes-for Inv-loop μ-loop) → let a = c .before .before .before .before .before .args in
     let l = c .before .before .before .before .loop in
     let n = c .before .count-in .result in
-    (l .queue / 256 < l .queue)
-    × Extending (a .word) (l .queue / 256) (l .words + n) (l .writes + c .writes-for .result) (eqb n 0)
+    (l .rest / 256 < l .rest)
+    × Extending (a .word) (l .rest / 256) (l .words + n) (l .writes + c .writes-for .result) (eqb n 0)
 turn c =
     let test = c .before .before in
     let l = test .before .before .loop in
-    let k : known (l .queue % 256) ≡ true = sym (test .before .is-known-in .ensures) ∙ test .if1 .taken in (
-      omega (arith, known-range (l .queue % 256) k),
+    let k : known (l .rest % 256) ≡ true = sym (test .before .is-known-in .ensures) ∙ test .if1 .taken in (
+      omega (arith, known-range (l .rest % 256) k),
       extent-more (l .inv) k _ _ (c .before .count-in .ensures) (c .writes-for .ensures),
     )
 
