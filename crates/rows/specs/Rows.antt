@@ -15,7 +15,7 @@ use Rattle.stream.specs.Pending.{idle, dummyDue, queued, commandsOf, soundPendi
 use Rattle.stream.specs.Command.{takesNone, command, write}
 use Rattle.stream.specs.Step.{commandWord, parameterWord, wordStep, heldWith, portParameter, portStep}
 use Rattle.stream.specs.Read.{listCommands}
-use Rattle.stream.specs.Output.{Output, refusal, onBytes}
+use Rattle.stream.specs.Output.{refusal, acceptance, onBytes}
 use Rattle.stream.specs.Unpack.{commandWrites, commandsLog, unpackFrom, unpack}
 use Rattle.stream.specs.Call.{Machine, Reply, machine, reply, run, callBy}
 use Rattle.stream.specs.Demand3.{after}
@@ -143,10 +143,6 @@ usedIn s = geometryOf s .used .vertices ∷ geometryOf s .used .polygons ∷ []
 abbrev storedX : ℕ → ℕ → Buffered Core → List ℤ
 storedX zero i s = []
 storedX (suc n) i s = at (s .vertices) (vertexWidth * i) ∷ storedX n (suc i) s
-
--- an accepted list, and the numbers that are stored
-abbrev unpacked : List ℕ → Output
-unpacked l = record { number = 0; place = 0; words = l }
 
 -- ---- the table, in document 01's order
 
@@ -300,10 +296,10 @@ unpackRows =
     ∷ row (unpackReport []) (ascii "ports 0\n")
     ∷ row (unpackReport (0x10 ∷ 0 ∷ 0 ∷ [])) (ascii "refused 7 0\n")
     -- of "any dummy is taken", one like a hole too; of a word without commands
-    ∷ row (unpack 2 (0x15 ∷ 0x0011_0015 ∷ [])) (unpacked (0x0400_0454 ∷ 0 ∷ []))
-    ∷ row (unpack 0 (0x9f73_ffab ∷ 0 ∷ [])) (unpacked [])
+    ∷ row (unpack 2 (0x15 ∷ 0x0011_0015 ∷ [])) (acceptance (0x0400_0454 ∷ 0 ∷ []))
+    ∷ row (unpack 0 (0x9f73_ffab ∷ 0 ∷ [])) (acceptance [])
     -- of a parameter like a hole, and of 23h's two: each is a pair
-    ∷ row (unpack 4 (0x23 ∷ 0x0011_0015 ∷ 8 ∷ [])) (unpacked (0x0400_048c ∷ 0x0011_0015 ∷ 0x0400_048c ∷ 8 ∷ []))
+    ∷ row (unpack 4 (0x23 ∷ 0x0011_0015 ∷ 8 ∷ [])) (acceptance (0x0400_048c ∷ 0x0011_0015 ∷ 0x0400_048c ∷ 8 ∷ []))
     -- of the places: a hole in the third word; the command word that begins what is unfinished, a command or its dummy
     ∷ row (unpack 9 (0x10 ∷ 2 ∷ 0x0011_0015 ∷ 0x10 ∷ [])) (refusal 3 2)
     ∷ row (unpack 9 (0x10 ∷ 2 ∷ 0x2310 ∷ 2 ∷ 8 ∷ [])) (refusal 8 2)
@@ -313,9 +309,9 @@ unpackRows =
     ∷ row (unpack 3 (0x1510 ∷ 2 ∷ 0 ∷ [])) (refusal 10 0)
     -- of the list reader's place: from the third word on, places counted from the first; at and past the end
     ∷ row (unpackFrom 2 9 (0x10 ∷ 2 ∷ 0x23 ∷ 7 ∷ [])) (refusal 8 2)
-    ∷ row (unpackFrom 1 2 (0x0011_0015 ∷ 0x10 ∷ 2 ∷ [])) (unpacked (0x0400_0440 ∷ 2 ∷ []))
-    ∷ row (unpackFrom 3 0 (0x0011_0015 ∷ 0x10 ∷ 2 ∷ [])) (unpacked [])
-    ∷ row (unpackFrom 4 0 (0x0011_0015 ∷ 0x10 ∷ 2 ∷ [])) (unpacked [])
+    ∷ row (unpackFrom 1 2 (0x0011_0015 ∷ 0x10 ∷ 2 ∷ [])) (acceptance (0x0400_0440 ∷ 2 ∷ []))
+    ∷ row (unpackFrom 3 0 (0x0011_0015 ∷ 0x10 ∷ 2 ∷ [])) (acceptance [])
+    ∷ row (unpackFrom 4 0 (0x0011_0015 ∷ 0x10 ∷ 2 ∷ [])) (acceptance [])
     ∷ []
 
 abbrev pub workedRows : List WorkedRow

@@ -9,7 +9,7 @@ use borrow.Author.Tests.{eq-eqb, ne-eqb, ltb-false}
 use Rattle.words.specs.Words.{wordsOf}
 use Rattle.words.proofs.Over.{over-none}
 use Rattle.stream.specs.declared.OutputAnswer.{OutputAnswer}
-use Rattle.stream.specs.Output.{Output, refusal, fitted, onBytes, answerOf, Stores}
+use Rattle.stream.specs.Output.{Output, refusal, acceptance, fitted, onBytes, answerOf, Stores}
 
 -- a refusal stores nothing
 pub stores-none : {o : Output} (n p : ℕ) (r : OutputAnswer) (old : List ℕ) → o ≡ refusal n p
@@ -21,7 +21,7 @@ pub fitted-fits : (capacity : ℕ) (l : List ℕ) → length (fitted capacity l 
 fitted-fits capacity l = by (ltb capacity (length l)) refl
   where
     by : (t : Bool) → ltb capacity (length l) ≡ t
-        → length (cond t (refusal 10 0) (record { number = 0; place = 0; words = l }) .words) ≤ capacity
+        → length (cond t (refusal 10 0) (acceptance l) .words) ≤ capacity
     by true e = zero-le
     by false e = ltb-false capacity (length l) e
 

@@ -21,10 +21,13 @@ pub record Output : Type 0 where
 abbrev pub refusal : ℕ → ℕ → Output
 refusal n place = record { number = n; place = place; words = [] }
 
+-- "An accepted call's number is 0."
+abbrev pub acceptance : List ℕ → Output
+acceptance l = record { number = 0; place = 0; words = l }
+
 -- 10: "output shorter than needed"; capacity is the output's length
 abbrev pub fitted : ℕ → List ℕ → Output
-fitted capacity l =
-    cond (ltb capacity (length l)) (refusal 10 0) (record { number = 0; place = 0; words = l })
+fitted capacity l = cond (ltb capacity (length l)) (refusal 10 0) (acceptance l)
 
 -- what was read goes on to f, or is refused with the number and place at which the reading stopped
 abbrev pub onRead : Read → (List Command → Output) → Output

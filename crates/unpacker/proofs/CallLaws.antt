@@ -10,13 +10,13 @@ use Rattle.stream.specs.declared.OutputAnswer.{OutputAnswer}
 use Rattle.stream.specs.Pending.{idle}
 use Rattle.stream.specs.Step.{wordStep}
 use Rattle.stream.specs.Read.{Read, stopped, commands, listCommands}
-use Rattle.stream.specs.Output.{refusal, fitted, onRead, answerOf, Stores}
+use Rattle.stream.specs.Output.{refusal, acceptance, fitted, onRead, answerOf, Stores}
 use Rattle.stream.specs.Pack.{orNone}
 use Rattle.stream.specs.Unpack.{commandsLog, unpackFrom}
 use Rattle.stream.proofs.StepLaws.{idle-sound, word-keeps}
 use Rattle.stream.proofs.ReadLaws.{stopped-number}
 use Rattle.stream.proofs.OutputLaws.{stores-none}
-use Rattle.unpacker.specs.Inside.{measured}
+use Rattle.unpacker.specs.Inside.{IsRead, logFrom, measured}
 
 module _ (place capacity : ℕ) (l : List ℕ) where
   pub too-long : 8192 < length l → unpackFrom place capacity l ≡ refusal 7 0
@@ -40,9 +40,9 @@ module _ (place capacity : ℕ) (l : List ℕ) where
 
 pub record Accepted (place : ℕ) (l : List ℕ) (m : OutputAnswer) : Type 0 where
   pub short : length l ≤ 8192
-  pub read : listCommands place l ≡ commands (orNone (listCommands place l))
+  pub read : IsRead (listCommands place l)
   pub answer : m ≡ measured (listCommands place l)
-  pub length-is : m .length ≡ length (commandsLog (orNone (listCommands place l)))
+  pub length-is : m .length ≡ length (logFrom place l)
 
 pub accepted : (place : ℕ) (l : List ℕ) (m : OutputAnswer) → length l ≤ 8192 → m ≡ measured (listCommands place l)
     → m .number ≡ 0 → Accepted place l m
@@ -61,18 +61,16 @@ accepted place l m h is z = by (listCommands place l) refl is
     }
 
 module _ {place : ℕ} {l : List ℕ} {m : OutputAnswer} (capacity : ℕ) (a : Accepted place l m) where
-  by-commands : unpackFrom place capacity l ≡ fitted capacity (commandsLog (orNone (listCommands place l)))
+  by-commands : unpackFrom place capacity l ≡ fitted capacity (logFrom place l)
   by-commands = by-reading place capacity l (a .short) (commands (orNone (listCommands place l))) (a .read)
 
   pub too-small : capacity < m .length → unpackFrom place capacity l ≡ refusal 10 0
   too-small h =
-      let n : ℕ = length (commandsLog (orNone (listCommands place l))) in
-      by-commands ∙ rw (lt-ltb capacity n (omega (arith, a .length-is)))
+      by-commands ∙ rw (lt-ltb capacity (length (logFrom place l)) (omega (arith, a .length-is)))
 
-  pub stores-log : m .length ≤ capacity → (old new : List ℕ)
-      → new ≡ over (commandsLog (orNone (listCommands place l))) old → Stores (unpackFrom place capacity l) m old new
+  pub stores-log : m .length ≤ capacity → (old new : List ℕ) → new ≡ over (logFrom place l) old
+      → Stores (unpackFrom place capacity l) m old new
   stores-log h old new e =
-      let log : List ℕ = commandsLog (orNone (listCommands place l)) in
-      let f : unpackFrom place capacity l ≡ record { number = 0; place = 0; words = log } =
-      by-commands ∙ rw (le-ltb capacity (length log) (omega (arith, a .length-is))) in
+      let f : unpackFrom place capacity l ≡ acceptance (logFrom place l) =
+      by-commands ∙ rw (le-ltb capacity (length (logFrom place l)) (omega (arith, a .length-is))) in
       record { answer = a .answer ∙ ap measured (a .read) ∙ ap answerOf (sym f); buffer = rw f e }

@@ -13,7 +13,7 @@ use Rattle.commands.specs.Commands.{commandBytes, hole}
 use Rattle.stream.specs.Pending.{commandsOf}
 use Rattle.stream.specs.Command.{Command}
 use Rattle.stream.specs.Read.{Read, stopped, commands, prepend, listCommands}
-use Rattle.stream.specs.Output.{Output, refusal, fitted, onRead}
+use Rattle.stream.specs.Output.{Output, refusal, acceptance, fitted, onRead}
 use Rattle.stream.specs.Unpack.{commandsLog, unpackFrom}
 use Rattle.stream.proofs.ReadLaws.{stopped-not}
 use Rattle.stream.proofs.UnpackLaws.{length-commands-log}
@@ -86,13 +86,13 @@ unpack-fits i capacity l = by (ltb 8192 (length l)) (listCommands i l)
 -- an output of 32,768 numbers, 16,384 pairs, is never shorter than needed
 pub long-enough : (i : ℕ) (l : List ℕ)
     → unpackFrom i 32768 l ≡ cond (ltb 8192 (length l)) (refusal 7 0)
-    (onRead (listCommands i l) (λ cs. record { number = 0; place = 0; words = commandsLog cs }))
+    (onRead (listCommands i l) (λ cs. acceptance (commandsLog cs)))
 unfolding unpackFrom
 long-enough i l = by (ltb 8192 (length l)) refl (listCommands i l) refl
   where
     by : (t : Bool) → ltb 8192 (length l) ≡ t → (r : Read) → listCommands i l ≡ r
         → cond t (refusal 7 0) (onRead r (λ cs. fitted 32768 (commandsLog cs)))
-        ≡ cond t (refusal 7 0) (onRead r (λ cs. record { number = 0; place = 0; words = commandsLog cs }))
+        ≡ cond t (refusal 7 0) (onRead r (λ cs. acceptance (commandsLog cs)))
     by true e r q = refl
     by false e (stopped n p) q = refl
     by false e (commands cs) q =
@@ -133,7 +133,7 @@ never-10 i l e =
     by (ltb 8192 (length l)) (listCommands i l) refl (sym (ap (λ (o : Output). o .number) (long-enough i l)) ∙ e)
   where
     by : (t : Bool) (r : Read) → listCommands i l ≡ r
-        → cond t (refusal 7 0) (onRead r (λ cs. record { number = 0; place = 0; words = commandsLog cs })) .number ≡ 10
+        → cond t (refusal 7 0) (onRead r (λ cs. acceptance (commandsLog cs))) .number ≡ 10
         → ⊥
     by true r q z = omega arith
     by false (commands cs) q z = omega arith

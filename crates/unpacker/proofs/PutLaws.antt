@@ -14,7 +14,7 @@ use Rattle.commands.specs.Commands.{known, count, port, commandBytes, hole}
 use Rattle.stream.specs.Pending.{commandsOf}
 use Rattle.stream.specs.Command.{takesNone, Command, command}
 use Rattle.stream.specs.Read.{commands, prepend, listCommands}
-use Rattle.stream.specs.Pack.{countIf, orNone}
+use Rattle.stream.specs.Pack.{countIf}
 use Rattle.stream.specs.Unpack.{writesTo, logOf, commandsLog}
 use Rattle.stream.proofs.QueueLaws.{commands-next, hole-next, commands-none}
 use Rattle.stream.proofs.ReadLaws.{prepend-none, prepend-append, More, behind}
@@ -22,7 +22,7 @@ use Rattle.stream.proofs.UnpackLaws.{writes-to-more, length-writes-log, command
 use Rattle.stream.proofs.UnpackLaws.{command-log}
 use Rattle.unpacker.specs.declared.Places.{Places}
 use Rattle.unpacker.specs.Inside.{writesFor, wordsBehind, commandsFrom, wordCommands, behindWord}
-use Rattle.unpacker.specs.Inside.{WordFits, PutWord}
+use Rattle.unpacker.specs.Inside.{logFrom, WordFits, PutWord}
 use Rattle.unpacker.proofs.WordLaws.{list-ended, GoodWord, good-word}
 use Rattle.unpacker.proofs.ExtentLaws.{none-by-count, length-command}
 
@@ -250,7 +250,7 @@ module _ {l old : List ℕ} {place i to : ℕ} {new : List ℕ} (p : PuttingList
               (over-more (commandsLog (p .done)) (commandsLog (wordCommands l i)) old fits-word);
         }
 
-  pub put-list-end : length l ≤ i → new ≡ over (commandsLog (orNone (listCommands place l))) old
+  pub put-list-end : length l ≤ i → new ≡ over (logFrom place l) old
   put-list-end h =
       let e : listCommands place l ≡ commands (p .done) =
       p .read ∙ rw (list-ended l i h) (ap commands (append-nil (p .done))) in

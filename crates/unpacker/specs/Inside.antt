@@ -11,9 +11,9 @@ use Rattle.commands.specs.Commands.{count, commandBytes, hole}
 use Rattle.stream.specs.declared.OutputAnswer.{OutputAnswer}
 use Rattle.stream.specs.Pending.{commandsOf}
 use Rattle.stream.specs.Command.{takesNone, Command, command}
-use Rattle.stream.specs.Read.{Read}
-use Rattle.stream.specs.Output.{onRead, answerOf}
-use Rattle.stream.specs.Pack.{countIf}
+use Rattle.stream.specs.Read.{Read, commands, listCommands}
+use Rattle.stream.specs.Output.{acceptance, onRead, answerOf}
+use Rattle.stream.specs.Pack.{countIf, orNone}
 use Rattle.stream.specs.Unpack.{commandsLog}
 use Rattle.unpacker.specs.declared.Extent.{Extent}
 use Rattle.unpacker.specs.declared.Places.{Places}
@@ -48,9 +48,17 @@ wordCommands l i = commandsFrom (commandsOf (getD l i 0)) (drop (i + 1) l)
 unfoldable pub behindWord : List ℕ → ℕ → ℕ
 behindWord l i = i + 1 + wordsBehind false (commandsOf (getD l i 0))
 
--- what is read is answered with, with a buffer that is long enough
+-- the reading did not stop
+abbrev pub IsRead : Read → Type 0
+IsRead r = r ≡ commands (orNone r)
+
+-- the log that a list which is read from word i on is unpacked to
+abbrev pub logFrom : ℕ → List ℕ → List ℕ
+logFrom i l = commandsLog (orNone (listCommands i l))
+
+-- the answer to what is read, with an output that is long enough
 abbrev pub measured : Read → OutputAnswer
-measured r = answerOf (onRead r (λ cs. record { number = 0; place = 0; words = commandsLog cs }))
+measured r = answerOf (onRead r (λ cs. acceptance (commandsLog cs)))
 
 -- the i-th word is a command word without a hole, its words are there, and its port writes fit the buffer from `to` on
 pub record WordFits (l : List ℕ) (i to : ℕ) (old : List ℕ) : Type 0 where

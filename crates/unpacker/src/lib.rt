@@ -9,12 +9,11 @@ ghost use lib.ListN.{length, take, drop};
 ghost use lib.Seq.{sets};
 ghost use Rattle.words.specs.Words.{over};
 ghost use Rattle.commands.specs.Commands.{port, commandBytes, hole, parameterTable};
-ghost use Rattle.stream.specs.Read.{commands, listCommands};
+ghost use Rattle.stream.specs.Read.{listCommands};
 ghost use Rattle.stream.specs.Output.{onBytes, Stores};
-ghost use Rattle.stream.specs.Pack.{countIf, orNone};
-ghost use Rattle.stream.specs.Unpack.{writesTo, logOf, commandsLog, unpackFrom, unpack as Unpack·unpack};
-ghost use Rattle.unpacker.specs.Inside.{writesFor, extentOf, measured};
-ghost use Rattle.unpacker.specs.Inside.{WordFits, PutWord};
+ghost use Rattle.stream.specs.Pack.{countIf};
+ghost use Rattle.stream.specs.Unpack.{writesTo, logOf, unpackFrom, unpack as Unpack·unpack};
+ghost use Rattle.unpacker.specs.Inside.{writesFor, extentOf, IsRead, logFrom, measured, WordFits, PutWord};
 use commands::command_bytes_in;
 use commands::count_in;
 use commands::has_hole;
@@ -164,10 +163,9 @@ fn put_word(table: &[u8; 256], words: &[u32], i: usize, buffer: &mut [u32], to: 
 // The port writes of an accepted list from a place on.
 fn put_list(table: &[u8; 256], words: &[u32], place: usize, buffer: &mut [u32])
     requires { ⌜ now table ≡ parameterTable ⌝ }
-    requires { ⌜ listCommands place (now words) ≡ commands (orNone (listCommands place (now words))) ⌝ }
-    requires { ⌜ length (commandsLog (orNone (listCommands place (now words)))) ≤ length (now buffer) ⌝ }
-    ensures { λ _. ⌜ now (buffer .exit)
-        ≡ over (commandsLog (orNone (listCommands place (now (words .entry))))) (now (buffer .entry)) ⌝ }
+    requires { ⌜ IsRead (listCommands place (now words)) ⌝ }
+    requires { ⌜ length (logFrom place (now words)) ≤ length (now buffer) ⌝ }
+    ensures { λ _. ⌜ now (buffer .exit) ≡ over (logFrom place (now (words .entry))) (now (buffer .entry)) ⌝ }
 {
     let mut i = place;
     let mut to = 0;
