@@ -11,15 +11,17 @@ use lib.Seq.{length-take-le}
 use borrow.Author.Tests.{ne-eqb}
 use Rattle.commands.specs.Commands.{known, count, port, commandBytes, hole}
 use Rattle.commands.proofs.Table.{count-small}
+use Rattle.commands.proofs.Commands.{counted-unknown}
 use Rattle.stream.specs.Pending.{commandsOf}
 use Rattle.stream.specs.Command.{takesNone, command}
 use Rattle.stream.specs.Pack.{countIf}
 use Rattle.stream.specs.Unpack.{commandsLog}
 use Rattle.stream.proofs.CommandLaws.{takes-some-count}
+use Rattle.stream.proofs.PendingLaws.{unknown-zero}
 use Rattle.stream.proofs.StepLaws.{commands-few}
 use Rattle.stream.proofs.QueueLaws.{commands-next, hole-next, commands-none}
 use Rattle.stream.proofs.UnpackLaws.{length-commands-log, command-log, length-writes-log}
-use Rattle.unpacker.specs.Inside.{writesFor, wordsBehind, writesOf, extentOf, commandsFrom}
+use Rattle.unpacker.specs.Inside.{writesFor, wordsBehind, writesOf, Extends, commandsFrom}
 
 -- a count tells whether the byte takes parameters
 pub none-by-count : (c n : ℕ) → n ≡ count c → eqb n 0 ≡ takesNone c
@@ -109,42 +111,48 @@ writes-by-words w = few (commandsOf w) (commands-few w)
     few [] h = omega arith
     few (c ∷ q) h = omega (arith, writes-some false c q)
 
--- ---- the commands of a command word one by one, with `queue` left of it
+-- ---- the commands of a command word one by one, with `rest` left of it
 
-pub record Extending (w queue words writes : ℕ) (none : Bool) : Type 0 where
-  pub small : queue < 2 ^ 32
-  pub no-hole : hole (commandBytes queue) ≡ false
-  pub words-is : words + wordsBehind none (commandsOf queue) ≡ wordsBehind false (commandsOf w)
-  pub writes-is : writes + writesOf (commandsOf queue) ≡ writesOf (commandsOf w)
+pub record Extending (w rest words writes : ℕ) (none : Bool) : Type 0 where
+  pub small : rest < 2 ^ 32
+  pub same-hole : hole (commandBytes rest) ≡ hole (commandBytes w)
+  pub words-is : words + wordsBehind none (commandsOf rest) ≡ wordsBehind false (commandsOf w)
+  pub writes-is : writes + writesOf (commandsOf rest) ≡ writesOf (commandsOf w)
 
-pub extent-start : (w : ℕ) → w < 2 ^ 32 → hole (commandBytes w) ≡ false → Extending w w 0 0 false
-extent-start w h o = record {
+pub extent-start : (w : ℕ) → w < 2 ^ 32 → Extending w w 0 0 false
+extent-start w h = record {
   small = h;
-  no-hole = o;
+  same-hole = refl;
   words-is = zero-add (wordsBehind false (commandsOf w));
   writes-is = zero-add (writesOf (commandsOf w));
 }
 
-module _ {w queue words writes : ℕ} {none : Bool} (s : Extending w queue words writes none) where
+module _ {w rest words writes : ℕ} {none : Bool} (s : Extending w rest words writes none) where
   pub extent-bounds : (words ≤ 129) × (writes ≤ 132)
   extent-bounds = (omega (arith, s .words-is, extent-small w), omega (arith, s .writes-is, extent-small w))
 
-  pub extent-more : known (queue % 256) ≡ true → (n m : ℕ) → n ≡ count (queue % 256) → m ≡ writesFor n
-      → Extending w (queue / 256) (words + n) (writes + m) (eqb n 0)
+  pub extent-more : known (rest % 256) ≡ true → (n m : ℕ) → n ≡ count (rest % 256) → m ≡ writesFor n
+      → Extending w (rest / 256) (words + n) (writes + m) (eqb n 0)
   extent-more k n m e f =
-      let q = commands-next queue (s .small) k in
-      let b : eqb n 0 ≡ takesNone (queue % 256) = none-by-count (queue % 256) n e in
+      let q = commands-next rest (s .small) k in
+      let b : eqb n 0 ≡ takesNone (rest % 256) = none-by-count (rest % 256) n e in
       record {
         small = omega (arith, s .small);
-        no-hole = sym (hole-next queue (s .small) k) ∙ s .no-hole;
+        same-hole = sym (hole-next rest (s .small) k) ∙ s .same-hole;
         words-is = rw b (omega (arith, e, s .words-is, ap (wordsBehind none) q));
         writes-is = omega (arith, f, ap writesFor e, s .writes-is, ap writesOf q);
       }
 
-  pub extent-end : known (queue % 256) ≡ false → (n : ℕ) → n ≡ countIf none 0
-      → record { words = words + n; writes = writes } ≡ extentOf w
-  extent-end k n e =
-      let q = commands-none queue k (s .no-hole) in
-      let a : words + n ≡ wordsBehind false (commandsOf w) = omega (arith, s .words-is, ap (wordsBehind none) q) in
-      let b : writes ≡ writesOf (commandsOf w) = omega (arith, s .writes-is, ap writesOf q) in
-      rw (a, b)
+  pub extent-end : known (rest % 256) ≡ false → (n : ℕ) → n ≡ countIf none 0
+      → Extends w (record { words = words + n; writes = writes; rest = rest })
+  extent-end k n e = record {
+    same-hole = s .same-hole;
+    words = λ o. omega (arith, s .words-is, ap (wordsBehind none) (commands-none rest k (s .same-hole ∙ o)));
+    writes = λ o. omega (arith, s .writes-is, ap writesOf (commands-none rest k (s .same-hole ∙ o)));
+  }
+
+-- ---- a word of 0
+
+pub zero-no-hole : hole (commandBytes 0) ≡ false
+unfolding commandBytes hole
+zero-no-hole = rw (counted-unknown 0 unknown-zero)

@@ -14,7 +14,7 @@ use Rattle.stream.specs.Unpack.{commandsLog}
 use Rattle.stream.proofs.ReadLaws.{prepend-none, prepend-append}
 use Rattle.stream.proofs.UnpackLaws.{length-commands-log}
 use Rattle.unpacker.specs.declared.Extent.{Extent}
-use Rattle.unpacker.specs.Inside.{extentOf, wordCommands, behindWord, measured}
+use Rattle.unpacker.specs.Inside.{wordsBehind, Extends, wordCommands, behindWord, measured}
 use Rattle.unpacker.proofs.WordLaws.{list-ended, at-hole, at-short, at-complete}
 use Rattle.unpacker.proofs.ExtentLaws.{length-commands, extent-small, writes-by-words}
 
@@ -52,35 +52,37 @@ module _ {l : List ℕ} {place i total : ℕ} (m : Measuring l place i total) wh
         → answerOf (refusal 3 i) ≡ measured (listCommands place l)
     measure-hole e = stopped-at 3 i (at-hole l i h e)
 
-    module _ (e : hole (commandBytes (getD l i 0)) ≡ false) (r : Extent) (x : r ≡ extentOf (getD l i 0)) where
+    module _ (e : hole (commandBytes (getD l i 0)) ≡ false) (r : Extent) (x : Extends (getD l i 0) r) where
       -- where the next command word stands
-      pub next-place : i + 1 + r .words ≡ behindWord l i
+      next-place : i + 1 + r .words ≡ behindWord l i
       unfolding behindWord
-      next-place = rw x
+      next-place = omega (arith, x .words e)
 
       pub measure-short : length l < i + 1 + r .words → answerOf (refusal 8 i) ≡ measured (listCommands place l)
       measure-short k = stopped-at 8 i (at-short l i h e (omega (arith, next-place)))
 
       pub word-small : (r .words ≤ 129) × (r .writes ≤ 132)
-      word-small = rw x (extent-small (getD l i 0))
+      word-small =
+          let b = extent-small (getD l i 0) in
+          (omega (arith, x .words e, b .0), omega (arith, x .writes e, b .1))
 
       length-word : i + 1 + r .words ≤ length l → length (commandsLog (wordCommands l i)) ≡ 2 * r .writes
       unfolding wordCommands
       length-word k =
-          let b : i + 1 + extentOf (getD l i 0) .words ≤ length l = rw x at k in
-          rw x (length-commands false (commandsOf (getD l i 0)) (drop (i + 1) l) (omega (arith, length-drop (i + 1) l)))
+          let b : wordsBehind false (commandsOf (getD l i 0)) ≤ length (drop (i + 1) l) =
+          omega (arith, x .words e, length-drop (i + 1) l) in
+          omega (arith, x .writes e, length-commands false (commandsOf (getD l i 0)) (drop (i + 1) l) b)
 
       pub measure-more : i + 1 + r .words ≤ length l → Measuring l place (i + 1 + r .words) (total + 2 * r .writes)
       measure-more k =
           let c : List Command = wordCommands l i in
           let y : listCommands i l ≡ prepend c (listCommands (i + 1 + r .words) l) =
           rw next-place (at-complete l i h e (omega (arith, next-place))) in
-          let z : r .writes ≤ 2 * (1 + r .words) = rw x (writes-by-words (getD l i 0)) in
           record {
             short = m .short;
             done = m .done ++ c;
             read = m .read ∙ ap (prepend (m .done)) y
                 ∙ prepend-append (m .done) (wordCommands l i) (listCommands (i + 1 + r .words) l);
             total-is = omega (arith, m .total-is, length-commands-log (m .done) (wordCommands l i), length-word k);
-            small = omega (arith, m .small, z);
+            small = omega (arith, m .small, x .words e, x .writes e, writes-by-words (getD l i 0));
           }

@@ -32,8 +32,12 @@ abbrev pub writesOf : List ℕ → ℕ
 writesOf [] = 0
 writesOf (c ∷ q) = writesFor (count c) + writesOf q
 
-abbrev pub extentOf : ℕ → Extent
-extentOf w = record { words = wordsBehind false (commandsOf w); writes = writesOf (commandsOf w) }
+-- the extent of word w: it has a hole exactly if what is left of it has one, and where it has none this is what its
+-- commands take
+pub record Extends (w : ℕ) (r : Extent) : Type 0 where
+  pub same-hole : hole (commandBytes (r .rest)) ≡ hole (commandBytes w)
+  pub words : hole (commandBytes w) ≡ false → r .words ≡ wordsBehind false (commandsOf w)
+  pub writes : hole (commandBytes w) ≡ false → r .writes ≡ writesOf (commandsOf w)
 
 -- the commands, with their parameters from the words behind
 abbrev pub commandsFrom : List ℕ → List ℕ → List Command

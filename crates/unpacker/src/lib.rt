@@ -1,7 +1,7 @@
 // The unpacker: a packed list as port writes, address and value pairs. Document 01, "Packer and unpacker". One pass
 // over the list measures, one writes.
 ghost use mathlib.Core.Path.{_≡_};
-ghost use mathlib.Core.Bool.{false, cond};
+ghost use mathlib.Core.Bool.{cond};
 ghost use mathlib.Core.List.{[], _∷_};
 ghost use Prim.Native.Nat.{_+_, _*_, _≤_};
 ghost use lib.Dec.{eqb};
@@ -13,7 +13,7 @@ ghost use Rattle.stream.specs.Read.{listCommands};
 ghost use Rattle.stream.specs.Output.{onBytes, Stores};
 ghost use Rattle.stream.specs.Pack.{countIf};
 ghost use Rattle.stream.specs.Unpack.{writesTo, logOf, unpackFrom, unpack as Unpack·unpack};
-ghost use Rattle.unpacker.specs.Inside.{writesFor, extentOf, IsRead, logFrom, measured, WordFits, PutWord};
+ghost use Rattle.unpacker.specs.Inside.{writesFor, Extends, IsRead, logFrom, measured, WordFits, PutWord};
 use commands::command_bytes_in;
 use commands::count_in;
 use commands::has_hole;
@@ -27,11 +27,12 @@ use words::read_words;
 // The longest list, in words.
 const LONGEST: usize = 8192;
 
-// What the commands of a command word take: the words behind it that are theirs, its dummy among them; and how many
-// port writes they are.
+// What the commands of a command word take: the words behind it that are theirs, its dummy among them; how many port
+// writes they are; and what is left of the word above them.
 struct Extent {
     words: usize,
     writes: usize,
+    rest: u32,
 }
 
 // Where reading and writing go on.
@@ -53,11 +54,10 @@ fn writes_for(count: usize) -> usize
     if count == 0 { 1 } else { count }
 }
 
-// The extent of a command word without a hole.
+// The extent of the commands of a command word, up to its first byte that is none.
 fn extent_of(table: &[u8; 256], word: u32) -> Extent
     requires { ⌜ now table ≡ parameterTable ⌝ }
-    requires { ⌜ hole (commandBytes word) ≡ false ⌝ }
-    ensures { λ r. ⌜ r ≡ extentOf word ⌝ }
+    ensures { λ r. ⌜ Extends word r ⌝ }
 {
     let mut rest = word;
     let mut words: usize = 0;
@@ -73,7 +73,19 @@ fn extent_of(table: &[u8; 256], word: u32) -> Extent
     Extent {
         words: words + one_if(none),
         writes: writes,
+        rest: rest,
     }
+}
+
+// Whether a word has a hole. Most words end with their commands, and 0 has none.
+fn is_holed(table: &[u8; 256], word: u32) -> bool
+    requires { ⌜ now table ≡ parameterTable ⌝ }
+    ensures { λ r. ⌜ r ≡ hole (commandBytes word) ⌝ }
+{
+    if word == 0 {
+        return false;
+    }
+    has_hole(command_bytes_in(table, word))
 }
 
 // What the list from a place on is answered with where the output is long enough; nothing is stored yet.
@@ -87,11 +99,11 @@ fn measure(table: &[u8; 256], words: &[u32], place: usize) -> OutputAnswer
     while i < words.len() {
         let word = words[i];
         let next = i + 1;
-        if has_hole(command_bytes_in(table, word)) {
-            return refused(3, i as u32);
-        }
         let extent = extent_of(table, word);
         let behind = extent.words;
+        if is_holed(table, extent.rest) {
+            return refused(3, i as u32);
+        }
         if words.len() - next < behind {
             return refused(8, i as u32);
         }

@@ -18,7 +18,7 @@ abbrev μ-loop : tie.MeasureT-loop
 μ-loop table word rest₀ words₀ writes₀ none₀ rest words writes none = rest
 
 loop-holds : tie.Need-loop-holds Inv-loop μ-loop
-loop-holds c = extent-start (c .args .word) (omega arith) (c .pre .1)
+loop-holds c = extent-start (c .args .word) (omega arith)
 
 cast-is-known-in : tie.Need-cast-is-known-in Inv-loop μ-loop
 cast-is-known-in c = search needs

@@ -1,5 +1,5 @@
 -- `unpacker::measure` meets its contract. Assumes nothing.
-use mathlib.Core.Path.{_≡_, sym, ap, _∙_}
+use mathlib.Core.Path.{_≡_, sym, _∙_}
 use Prim.Native.Nat.{_-_, _≤_}
 use native.Mathlib.Omega.{arith}
 use lib.ListN.{length, getD}
@@ -28,11 +28,16 @@ shared-slice-read-word c = search needs
 add-next : tie.Need-add-next Inv-loop μ-loop
 add-next c = search needs
 
-command-bytes-in-requires : tie.Need-command-bytes-in-requires Inv-loop μ-loop
-command-bytes-in-requires c κs = search needs
+extent-of-requires : tie.Need-extent-of-requires Inv-loop μ-loop
+extent-of-requires c κs = search needs
 
-has-hole-requires : tie.Need-has-hole-requires Inv-loop μ-loop
-has-hole-requires c κs = search needs
+is-holed-requires : tie.Need-is-holed-requires Inv-loop μ-loop
+is-holed-requires c κs = search needs
+
+-- what the test said of the word
+tested : (c : tie.After-is-holed Inv-loop μ-loop) → let l = c .before .before .before .before in
+    hole (commandBytes (getD (l .before .before .args .words .now) (l .loop .i) 0)) ≡ c .is-holed .result
+tested c = sym (c .before .extent-of .ensures .same-hole) ∙ sym (c .is-holed .ensures)
 
 cast-refused : tie.Need-cast-refused Inv-loop μ-loop
 cast-refused c = omega (arith, c .before .before .before .before .before .loop .inv .short)
@@ -40,52 +45,45 @@ cast-refused c = omega (arith, c .before .before .before .before .before .loop .
 refused-requires : tie.Need-refused-requires Inv-loop μ-loop
 refused-requires c κs = search needs
 
--- what the test said of the word
-tested : (c : tie.After-has-hole Inv-loop μ-loop) → let l = c .before .before .before .before in
-    hole (commandBytes (getD (l .before .before .args .words .now) (l .loop .i) 0)) ≡ c .has-hole .result
-tested c = ap hole (sym (c .before .command-bytes-in .ensures)) ∙ sym (c .has-hole .ensures)
-
 returns : tie.Need-returns Inv-loop μ-loop
 returns c =
     let t = c .before .before in
-    let l = t .before .before .before .before in
+    let turn = t .before .before .before in
     c .refused .ensures
-    ∙ measure-hole (l .loop .inv) (t .before .before .before .loop-test .taken) (tested t ∙ c .before .if1 .taken)
-
-extent-of-requires : tie.Need-extent-of-requires Inv-loop μ-loop
-extent-of-requires c κs = (search needs, tested (c .before) ∙ c .if1 .left)
+    ∙ measure-hole (turn .before .loop .inv) (turn .loop-test .taken) (tested t ∙ c .before .if1 .taken)
 
 sub-if2 : tie.Need-sub-if2 Inv-loop μ-loop
 sub-if2 c = search needs
 
 cast-refused-2 : tie.Need-cast-refused-2 Inv-loop μ-loop
-cast-refused-2 c = omega (arith, c .before .before .before .before .before .before .before .loop .inv .short)
+cast-refused-2 c = omega (arith, c .before .before .before .before .before .before .loop .inv .short)
 
 refused-requires-2 : tie.Need-refused-requires-2 Inv-loop μ-loop
 refused-requires-2 c κs = search needs
 
 returns-2 : tie.Need-returns-2 Inv-loop μ-loop
 returns-2 c =
-    let x = c .before .before in
-    let t = x .before .before in
-    let l = t .before .before .before .before in
+    let none = c .before .before in
+    let t = none .before in
+    let x = t .before .extent-of in
+    let turn = t .before .before .before in
     c .refused2 .ensures
-    ∙ measure-short (l .loop .inv) (t .before .before .before .loop-test .taken) (tested t ∙ x .before .if1 .left)
-    (x .extent-of .result) (x .extent-of .ensures) (omega (arith, c .before .if2 .taken))
+    ∙ measure-short (turn .before .loop .inv) (turn .loop-test .taken) (tested t ∙ none .if1 .left) (x .result)
+    (x .ensures) (omega (arith, c .before .if2 .taken))
 
 add-i : tie.Need-add-i Inv-loop μ-loop
-add-i c = omega (arith, c .if2 .left, c .before .before .before .before .before .before .loop-test .taken)
+add-i c = omega (arith, c .if2 .left, c .before .before .before .before .before .loop-test .taken)
 
 -- its port writes and those before it are few
-small : (c : tie.After-extent-of Inv-loop μ-loop)
-    → (c .extent-of .result .writes ≤ 132) × (c .before .before .before .before .before .before .loop .total ≤ 32768)
+small : (c : tie.Else1 Inv-loop μ-loop) → let x = c .before .before in
+    (x .extent-of .result .writes ≤ 132) × (x .before .before .before .loop .total ≤ 32768)
 small c =
-    let t = c .before .before in
-    let l = t .before .before .before .before in
-    let x = c .extent-of in
-    let h = t .before .before .before .loop-test .taken in
-    let w = word-small (l .loop .inv) h (tested t ∙ c .before .if1 .left) (x .result) (x .ensures) in
-    (w .1, total-small (l .loop .inv))
+    let t = c .before in
+    let x = t .before .extent-of in
+    let turn = t .before .before .before in
+    let inv = turn .before .loop .inv in
+    let w = word-small inv (turn .loop-test .taken) (tested t ∙ c .if1 .left) (x .result) (x .ensures) in
+    (w .1, total-small inv)
 
 mul-total : tie.Need-mul-total Inv-loop μ-loop
 mul-total c = omega (arith, small (c .before .before))
@@ -94,18 +92,19 @@ add-total : tie.Need-add-total Inv-loop μ-loop
 add-total c = omega (arith, small (c .before .before))
 
 loop-less : tie.Need-loop-less Inv-loop μ-loop
-loop-less c = omega (arith, c .before .before .before .before .before .before .before .loop-test .taken)
+loop-less c = omega (arith, c .before .before .before .before .before .before .loop-test .taken)
 
 loop-again : tie.Need-loop-again Inv-loop μ-loop
 loop-again c =
-    let x = c .before .before in
-    let t = x .before .before in
-    let l = t .before .before .before .before in
-    measure-more (l .loop .inv) (t .before .before .before .loop-test .taken) (tested t ∙ x .before .if1 .left)
-    (x .extent-of .result) (x .extent-of .ensures) (omega (arith, c .before .if2 .left))
+    let none = c .before .before in
+    let t = none .before in
+    let x = t .before .extent-of in
+    let turn = t .before .before .before in
+    measure-more (turn .before .loop .inv) (turn .loop-test .taken) (tested t ∙ none .if1 .left) (x .result)
+    (x .ensures) (omega (arith, c .before .if2 .left))
 
-cast-t19 : tie.Need-cast-t19 Inv-loop μ-loop
-cast-t19 c = omega (arith, total-small (c .before .loop .inv))
+cast-t18 : tie.Need-cast-t18 Inv-loop μ-loop
+cast-t18 c = omega (arith, total-small (c .before .loop .inv))
 
 returns-3 : tie.Need-returns-3 Inv-loop μ-loop
 returns-3 c = measure-end (c .before .loop .inv) (c .loop-test .left)
@@ -120,12 +119,11 @@ measure-spec =
     mul-word
     shared-slice-read-word
     add-next
-    command-bytes-in-requires
-    has-hole-requires
+    extent-of-requires
+    is-holed-requires
     cast-refused
     refused-requires
     returns
-    extent-of-requires
     sub-if2
     cast-refused-2
     refused-requires-2
@@ -135,5 +133,5 @@ measure-spec =
     add-total
     loop-less
     loop-again
-    cast-t19
+    cast-t18
     returns-3)
