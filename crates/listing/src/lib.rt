@@ -6,11 +6,11 @@ ghost use Rattle.stream.specs.Read.{writes};
 ghost use Rattle.listing.specs.Text.{decimal, hex8, writeLine, writeLines, portsText, refusedLine};
 ghost use Rattle.listing.specs.Buffer.{Puts};
 
-// Every function here stores its text in the buffer from `at` on and answers where the next goes. Each is for the
-// crates above, which have a buffer that is long enough.
+// Every function here stores its text in the buffer from `at` on and answers where the next goes. The public ones are for
+// the crates above, which have a buffer that is long enough.
 
 // Some bytes.
-pub fn put_bytes(text: &mut [u8], at: usize, bytes: &[u8]) -> usize
+fn put_bytes(text: &mut [u8], at: usize, bytes: &[u8]) -> usize
     requires { ⌜ at + length (now bytes) ≤ length (now text) ⌝ }
     ensures { λ r. ⌜ Puts (now (bytes .entry)) at r (now (text .entry)) (now (text .exit)) ⌝ }
 {
@@ -23,7 +23,7 @@ pub fn put_bytes(text: &mut [u8], at: usize, bytes: &[u8]) -> usize
 }
 
 // A number in decimal.
-pub fn put_decimal(text: &mut [u8], at: usize, n: u32) -> usize
+fn put_decimal(text: &mut [u8], at: usize, n: u32) -> usize
     requires { ⌜ at + 10 ≤ length (now text) ⌝ }
     ensures { λ r. ⌜ Puts (decimal n) at r (now (text .entry)) (now (text .exit)) ⌝ }
 {
@@ -33,7 +33,7 @@ pub fn put_decimal(text: &mut [u8], at: usize, n: u32) -> usize
 }
 
 // A number as eight hex digits.
-pub fn put_hex(text: &mut [u8], at: usize, n: u32) -> usize
+fn put_hex(text: &mut [u8], at: usize, n: u32) -> usize
     requires { ⌜ at + 8 ≤ length (now text) ⌝ }
     ensures { λ r. ⌜ Puts (hex8 n) at r (now (text .entry)) (now (text .exit)) ⌝ }
 {
@@ -43,7 +43,7 @@ pub fn put_hex(text: &mut [u8], at: usize, n: u32) -> usize
 }
 
 // A line for a port write.
-pub fn put_write(text: &mut [u8], at: usize, address: u32, value: u32) -> usize
+fn put_write(text: &mut [u8], at: usize, address: u32, value: u32) -> usize
     requires { ⌜ at + 18 ≤ length (now text) ⌝ }
     ensures { λ r. ⌜ Puts (writeLine (write address value)) at r (now (text .entry)) (now (text .exit)) ⌝ }
 {
@@ -54,7 +54,7 @@ pub fn put_write(text: &mut [u8], at: usize, address: u32, value: u32) -> usize
 }
 
 // A line for each port write of a log.
-pub fn put_writes(text: &mut [u8], at: usize, log: &[u32]) -> usize
+fn put_writes(text: &mut [u8], at: usize, log: &[u32]) -> usize
     requires { ⌜ at + 18 * (length (now log) / 2) ≤ length (now text) ⌝ }
     ensures { λ r. ⌜ Puts (writeLines (writes (now (log .entry)))) at r (now (text .entry)) (now (text .exit)) ⌝ }
 {

@@ -41,6 +41,7 @@ struct Places {
     to: usize,
 }
 
+// 1 where b holds, else 0.
 fn one_if(b: bool) -> usize
     ensures { λ r. ⌜ r ≡ countIf b 0 ⌝ }
 {
