@@ -6,8 +6,8 @@ ghost use Rattle.stream.specs.Read.{writes};
 ghost use Rattle.listing.specs.Text.{decimal, hex8, writeLine, writeLines, portsText, refusedLine};
 ghost use Rattle.listing.specs.Buffer.{Puts};
 
-// Every function here stores its text in the buffer from `at` on and answers where the next goes. The public ones are for
-// the crates above, which have a buffer that is long enough.
+// Every function here stores its text in the buffer from `at` on and answers where the next goes. The public ones are
+// for the crates above, which have a buffer that is long enough.
 
 // Some bytes.
 fn put_bytes(text: &mut [u8], at: usize, bytes: &[u8]) -> usize

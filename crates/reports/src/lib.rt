@@ -15,7 +15,8 @@ fn longest_log() -> [u32; 32768]
     [0; 32768]
 }
 
-// Room for the longest report of a log: the first line and 16,384 lines of 18 bytes.
+// Room for the longest report of a log: the first line, of at most 17 bytes, and 16,384 lines of 18. What it holds is
+// free.
 pub fn log_report_buffer() -> [u8; 294929]
     ensures { λ r. ⌜ 294929 ≡ length r ⌝ }
 {

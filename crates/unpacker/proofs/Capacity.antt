@@ -12,10 +12,10 @@ use borrow.Author.Tests.{le-ltb, ltb-true, ltb-false}
 use Rattle.commands.specs.Commands.{commandBytes, hole}
 use Rattle.stream.specs.Pending.{commandsOf}
 use Rattle.stream.specs.Command.{Command}
-use Rattle.stream.specs.Read.{Read, stopped, commands, prepend, listCommands}
+use Rattle.stream.specs.Read.{Read, stopped, commands, listCommands}
 use Rattle.stream.specs.Output.{Output, refusal, acceptance, fitted, onRead}
 use Rattle.stream.specs.Unpack.{commandsLog, unpackFrom}
-use Rattle.stream.proofs.ReadLaws.{stopped-not}
+use Rattle.stream.proofs.ReadLaws.{stopped-not, behind-stopped}
 use Rattle.stream.proofs.UnpackLaws.{length-commands-log}
 use Rattle.stream.proofs.OutputLaws.{fitted-fits}
 use Rattle.unpacker.specs.Inside.{wordCommands, behindWord}
@@ -24,6 +24,7 @@ use Rattle.unpacker.proofs.ExtentLaws.{length-commands, writes-by-words
 
 -- ---- at most four numbers for each word
 
+-- at the end of the list there are none
 none : (l : List ℕ) (i : ℕ) (cs : List Command) → length l ≤ i → listCommands i l ≡ commands cs
     → length (commandsLog cs) ≡ 0
 unfolding commandsLog
@@ -44,6 +45,7 @@ word-few l i cs g =
       writes-by-words (getD l i 0),
     )
 
+-- reading goes on behind the command word
 on : (l : List ℕ) (i : ℕ) → i + 1 ≤ behindWord l i
 unfolding behindWord
 on l i = omega arith
@@ -101,11 +103,6 @@ long-enough i l = by (ltb 8192 (length l)) refl (listCommands i l) refl
 
 -- ---- the numbers of an unpacked list
 
--- commands in front of a refusal are still that refusal
-behind-stopped : (cs : List Command) (r : Read) (m p : ℕ) → prepend cs r ≡ stopped m p → r ≡ stopped m p
-behind-stopped cs (stopped n q) m p e = e
-behind-stopped cs (commands ds) m p e = stopped-not (sym e)
-
 -- reading stops with 3 or with 8; by the number n of words that are left
 stops : (n : ℕ) (l : List ℕ) (i m p : ℕ) → length l ≤ i + n → listCommands i l ≡ stopped m p → (m ≡ 3) ⊎ (m ≡ 8)
 stops zero l i m p h e = stopped-not (sym e ∙ list-ended l i (omega arith))
@@ -128,6 +125,7 @@ stops (suc n) l i m p h e =
         ih (behindWord l i) m p (omega (arith, on l i))
         (behind-stopped (wordCommands l i) (listCommands (behindWord l i) l) m p (sym r ∙ e))
 
+-- "the program prints them all and never answers 10"
 pub never-10 : (i : ℕ) (l : List ℕ) → unpackFrom i 32768 l .number ≡ 10 → ⊥
 never-10 i l e =
     by (ltb 8192 (length l)) (listCommands i l) refl (sym (ap (λ (o : Output). o .number) (long-enough i l)) ∙ e)
