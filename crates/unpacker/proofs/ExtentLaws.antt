@@ -8,29 +8,21 @@ use native.Mathlib.Omega.{arith}
 use lib.Dec.{eqb}
 use lib.ListN.{length, take, drop, length-drop}
 use lib.Seq.{length-take-le}
-use borrow.Author.Tests.{ne-eqb}
 use Rattle.commands.specs.Commands.{known, count, port, commandBytes, hole}
 use Rattle.commands.proofs.Table.{count-small}
 use Rattle.commands.proofs.Commands.{counted-unknown}
 use Rattle.stream.specs.Pending.{commandsOf}
 use Rattle.stream.specs.Command.{takesNone, command}
 use Rattle.stream.specs.Pack.{countIf}
-use Rattle.stream.specs.Unpack.{commandsLog}
-use Rattle.stream.proofs.CommandLaws.{takes-some-count}
+use Rattle.stream.specs.Unpack.{writesFor, commandsLog}
+use Rattle.stream.proofs.CommandLaws.{takes-some-count, none-by-count}
 use Rattle.stream.proofs.PendingLaws.{unknown-zero}
 use Rattle.stream.proofs.StepLaws.{commands-few}
 use Rattle.stream.proofs.QueueLaws.{commands-next, hole-next, commands-none}
+use Rattle.stream.proofs.PackLaws.{one-most}
 use Rattle.stream.proofs.UnpackLaws.{length-commands-log, command-log, length-writes-log}
-use Rattle.unpacker.specs.Inside.{writesFor, wordsBehind, writesOf, Extends, commandsFrom}
-
--- a count tells whether the byte takes parameters
-pub none-by-count : (c n : ℕ) → n ≡ count c → eqb n 0 ≡ takesNone c
-unfolding takesNone
-none-by-count c n e = rw e
-
-pub one-most : (b : Bool) → countIf b 0 ≤ 1
-one-most true = omega arith
-one-most false = omega arith
+use Rattle.stream.proofs.UnpackLaws.{writes-for-some, writes-for-bounds}
+use Rattle.unpacker.specs.Inside.{wordsBehind, writesOf, Extends, commandsFrom}
 
 -- ---- the numbers of port writes
 
@@ -64,25 +56,9 @@ words-few : (b : Bool) (q : List ℕ) → wordsBehind b q ≤ 32 * length q + 1
 words-few b [] = omega (arith, one-most b)
 words-few b (c ∷ q) = omega (arith, words-few (takesNone c) q, count-small c)
 
-pub writes-for-none : (n : ℕ) → n ≡ 0 → writesFor n ≡ 1
-unfolding writesFor
-writes-for-none n e = rw e
-
-pub writes-for-some : (n : ℕ) → 1 ≤ n → writesFor n ≡ n
-unfolding writesFor
-writes-for-some n h = rw (ne-eqb n 0 (λ e. omega arith))
-
-pub writes-for-most : (n : ℕ) → writesFor n ≤ n + 1
-unfolding writesFor
-writes-for-most n = by (eqb n 0)
-  where
-    by : (t : Bool) → cond t 1 n ≤ n + 1
-    by true = omega arith
-    by false = omega arith
-
 writes-few : (q : List ℕ) → writesOf q ≤ 33 * length q
 writes-few [] = omega arith
-writes-few (c ∷ q) = omega (arith, writes-few q, count-small c, writes-for-most (count c))
+writes-few (c ∷ q) = omega (arith, writes-few q, count-small c, writes-for-bounds (count c))
 
 pub extent-small : (w : ℕ) → (wordsBehind false (commandsOf w) ≤ 129) × (writesOf (commandsOf w) ≤ 132)
 extent-small w = (
@@ -97,11 +73,11 @@ writes-some b c [] = by (takesNone c) refl
   where
     by : (t : Bool) → takesNone c ≡ t
         → (writesFor (count c) + 0 + 1 ≤ count c + countIf t 0 + 1) × (1 ≤ count c + countIf t 0)
-    by true e = (omega (arith, writes-for-most (count c)), omega arith)
+    by true e = (omega (arith, writes-for-bounds (count c)), omega arith)
     by false e = (omega (arith, writes-for-some (count c) (takes-some-count c e)), omega (arith, takes-some-count c e))
 writes-some b c (d ∷ q) =
     let ih = writes-some (takesNone c) d q in
-    (omega (arith, ih .0, writes-for-most (count c)), omega (arith, ih .1))
+    (omega (arith, ih .0, writes-for-bounds (count c)), omega (arith, ih .1))
 
 -- at most two port writes for each word, the command word among them
 pub writes-by-words : (w : ℕ) → writesOf (commandsOf w) ≤ 2 * (1 + wordsBehind false (commandsOf w))

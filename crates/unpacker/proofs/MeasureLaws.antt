@@ -9,12 +9,12 @@ use Rattle.commands.specs.Commands.{commandBytes, hole}
 use Rattle.stream.specs.Pending.{commandsOf}
 use Rattle.stream.specs.Command.{Command}
 use Rattle.stream.specs.Read.{stopped, prepend, listCommands}
-use Rattle.stream.specs.Output.{refusal, answerOf}
+use Rattle.stream.specs.Output.{refusal, answerOf, measured}
 use Rattle.stream.specs.Unpack.{commandsLog}
 use Rattle.stream.proofs.ReadLaws.{prepend-none, prepend-append}
 use Rattle.stream.proofs.UnpackLaws.{length-commands-log}
 use Rattle.unpacker.specs.declared.Extent.{Extent}
-use Rattle.unpacker.specs.Inside.{wordsBehind, Extends, wordCommands, behindWord, measured}
+use Rattle.unpacker.specs.Inside.{wordsBehind, Extends, wordCommands, behindWord}
 use Rattle.unpacker.proofs.WordLaws.{list-ended, at-hole, at-short, at-complete}
 use Rattle.unpacker.proofs.ExtentLaws.{length-commands, extent-small, writes-by-words}
 
@@ -38,18 +38,19 @@ measure-start l place h = record {
 
 module _ {l : List ℕ} {place i total : ℕ} (m : Measuring l place i total) where
   stopped-at : (n p : ℕ) → listCommands i l ≡ stopped n p
-      → answerOf (refusal n p) ≡ measured (listCommands place l)
+      → answerOf (refusal n p) ≡ measured commandsLog (listCommands place l)
   stopped-at n p e = rw (m .read, e)
 
   pub total-small : total ≤ 32768
   total-small = omega (arith, m .small, m .short)
 
-  pub measure-end : length l ≤ i → record { number = 0; place = 0; length = total } ≡ measured (listCommands place l)
+  pub measure-end : length l ≤ i
+      → record { number = 0; place = 0; length = total } ≡ measured commandsLog (listCommands place l)
   measure-end h = rw (m .read, list-ended l i h, append-nil (m .done), m .total-is)
 
   module _ (h : i < length l) where
     pub measure-hole : hole (commandBytes (getD l i 0)) ≡ true
-        → answerOf (refusal 3 i) ≡ measured (listCommands place l)
+        → answerOf (refusal 3 i) ≡ measured commandsLog (listCommands place l)
     measure-hole e = stopped-at 3 i (at-hole l i h e)
 
     module _ (e : hole (commandBytes (getD l i 0)) ≡ false) (r : Extent) (x : Extends (getD l i 0) r) where
@@ -58,7 +59,8 @@ module _ {l : List ℕ} {place i total : ℕ} (m : Measuring l place i total) wh
       unfolding behindWord
       next-place = omega (arith, x .words e)
 
-      pub measure-short : length l < i + 1 + r .words → answerOf (refusal 8 i) ≡ measured (listCommands place l)
+      pub measure-short : length l < i + 1 + r .words
+          → answerOf (refusal 8 i) ≡ measured commandsLog (listCommands place l)
       measure-short k = stopped-at 8 i (at-short l i h e (omega (arith, next-place)))
 
       pub word-small : (r .words ≤ 129) × (r .writes ≤ 132)

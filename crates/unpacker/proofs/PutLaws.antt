@@ -15,16 +15,17 @@ use Rattle.stream.specs.Pending.{commandsOf}
 use Rattle.stream.specs.Command.{takesNone, Command, command}
 use Rattle.stream.specs.Read.{commands, prepend, listCommands}
 use Rattle.stream.specs.Pack.{countIf}
-use Rattle.stream.specs.Unpack.{writesTo, logOf, commandsLog}
+use Rattle.stream.specs.Unpack.{writesTo, writesFor, logOf, commandsLog}
+use Rattle.stream.proofs.CommandLaws.{none-by-count}
 use Rattle.stream.proofs.QueueLaws.{commands-next, hole-next, commands-none}
 use Rattle.stream.proofs.ReadLaws.{prepend-none, prepend-append, More, behind}
 use Rattle.stream.proofs.UnpackLaws.{writes-to-more, length-writes-log, commands-log-append, length-commands-log}
 use Rattle.stream.proofs.UnpackLaws.{command-log}
 use Rattle.unpacker.specs.declared.Places.{Places}
-use Rattle.unpacker.specs.Inside.{writesFor, wordsBehind, commandsFrom, wordCommands, behindWord}
+use Rattle.unpacker.specs.Inside.{wordsBehind, commandsFrom, wordCommands, behindWord}
 use Rattle.unpacker.specs.Inside.{logFrom, WordFits, PutWord}
 use Rattle.unpacker.proofs.WordLaws.{list-ended, GoodWord, good-word}
-use Rattle.unpacker.proofs.ExtentLaws.{none-by-count, length-command}
+use Rattle.unpacker.proofs.ExtentLaws.{length-command}
 
 -- ---- a command's parameters: j of n are written
 

@@ -1,26 +1,19 @@
 -- What the functions inside the unpacker require and promise, of one command word and the words behind it: nothing here
 -- is cited by a contract outside. Assumes nothing.
-use mathlib.Core.Bool.{Bool, false, cond}
+use mathlib.Core.Bool.{Bool, false}
 use mathlib.Core.List.{List, [], _∷_}
 use mathlib.Core.Path.{_≡_}
 use Prim.Native.Nat.{ℕ, _+_, _≤_, _<_}
-use lib.Dec.{eqb}
 use lib.ListN.{length, getD, take, drop}
 use lib.Seq.{sets}
 use Rattle.commands.specs.Commands.{count, commandBytes, hole}
-use Rattle.stream.specs.declared.OutputAnswer.{OutputAnswer}
 use Rattle.stream.specs.Pending.{commandsOf}
 use Rattle.stream.specs.Command.{takesNone, Command, command}
-use Rattle.stream.specs.Read.{Read, commands, listCommands}
-use Rattle.stream.specs.Output.{acceptance, onRead, answerOf}
+use Rattle.stream.specs.Read.{listCommands}
 use Rattle.stream.specs.Pack.{countIf, orNone}
-use Rattle.stream.specs.Unpack.{commandsLog}
+use Rattle.stream.specs.Unpack.{writesFor, commandsLog}
 use Rattle.unpacker.specs.declared.Extent.{Extent}
 use Rattle.unpacker.specs.declared.Places.{Places}
-
--- how many port writes a command of n parameters is
-unfoldable pub writesFor : ℕ → ℕ
-writesFor n = cond (eqb n 0) 1 n
 
 -- how many words behind their command word some commands take, with the dummy; b: the command before them takes none
 abbrev pub wordsBehind : Bool → List ℕ → ℕ
@@ -52,17 +45,9 @@ wordCommands l i = commandsFrom (commandsOf (getD l i 0)) (drop (i + 1) l)
 unfoldable pub behindWord : List ℕ → ℕ → ℕ
 behindWord l i = i + 1 + wordsBehind false (commandsOf (getD l i 0))
 
--- the reading did not stop
-abbrev pub IsRead : Read → Type 0
-IsRead r = r ≡ commands (orNone r)
-
 -- the log that a list which is read from word i on is unpacked to
 abbrev pub logFrom : ℕ → List ℕ → List ℕ
 logFrom i l = commandsLog (orNone (listCommands i l))
-
--- the answer to what is read, with an output that is long enough
-abbrev pub measured : Read → OutputAnswer
-measured r = answerOf (onRead r (λ cs. acceptance (commandsLog cs)))
 
 -- the i-th word is a command word without a hole, its words are there, and its port writes fit the buffer from `to` on
 pub record WordFits (l : List ℕ) (i to : ℕ) (old : List ℕ) : Type 0 where

@@ -10,10 +10,11 @@ ghost use lib.Seq.{sets};
 ghost use Rattle.words.specs.Words.{over};
 ghost use Rattle.commands.specs.Commands.{port, commandBytes, hole, parameterTable};
 ghost use Rattle.stream.specs.Read.{listCommands};
-ghost use Rattle.stream.specs.Output.{onBytes, Stores};
-ghost use Rattle.stream.specs.Pack.{countIf};
-ghost use Rattle.stream.specs.Unpack.{writesTo, logOf, unpackFrom, unpack as Unpack·unpack};
-ghost use Rattle.unpacker.specs.Inside.{writesFor, Extends, IsRead, logFrom, measured, WordFits, PutWord};
+ghost use Rattle.stream.specs.Output.{onBytes, measured, Stores};
+ghost use Rattle.stream.specs.Pack.{IsRead};
+ghost use Rattle.stream.specs.Unpack.{writesTo, writesFor, logOf, commandsLog, unpackFrom};
+ghost use Rattle.stream.specs.Unpack.{unpack as Unpack·unpack};
+ghost use Rattle.unpacker.specs.Inside.{Extends, logFrom, WordFits, PutWord};
 use commands::command_bytes_in;
 use commands::count_in;
 use commands::has_hole;
@@ -21,7 +22,9 @@ use commands::is_known_in;
 use commands::parameter_table;
 use commands::port_of;
 use stream::OutputAnswer;
+use stream::one_if;
 use stream::refused;
+use stream::writes_for;
 use words::read_words;
 
 // The longest list, in words.
@@ -39,20 +42,6 @@ struct Extent {
 struct Places {
     next: usize,
     to: usize,
-}
-
-// 1 where b holds, else 0.
-fn one_if(b: bool) -> usize
-    ensures { λ r. ⌜ r ≡ countIf b 0 ⌝ }
-{
-    if b { 1 } else { 0 }
-}
-
-// How many port writes a command is: one for each parameter, one where it takes none.
-fn writes_for(count: usize) -> usize
-    ensures { λ r. ⌜ r ≡ writesFor count ⌝ }
-{
-    if count == 0 { 1 } else { count }
 }
 
 // The extent of the commands of a command word, up to its first byte that is none.
@@ -93,7 +82,7 @@ fn is_holed(table: &[u8; 256], word: u32) -> bool
 fn measure(table: &[u8; 256], words: &[u32], place: usize) -> OutputAnswer
     requires { ⌜ now table ≡ parameterTable ⌝ }
     requires { ⌜ length (now words) ≤ 8192 ⌝ }
-    ensures { λ r. ⌜ r ≡ measured (listCommands place (now (words .entry))) ⌝ }
+    ensures { λ r. ⌜ r ≡ measured commandsLog (listCommands place (now (words .entry))) ⌝ }
 {
     let mut i = place;
     let mut total: usize = 0;

@@ -7,7 +7,8 @@ use lib.Dec.{eqb}
 use borrow.Author.Needs.{needs}
 use Rattle.commands.specs.Commands.{known}
 use Rattle.commands.proofs.Table.{known-range, count-small}
-use Rattle.unpacker.proofs.ExtentLaws.{one-most, Extending, extent-start, extent-bounds, extent-more, extent-end}
+use Rattle.stream.proofs.PackLaws.{one-most}
+use Rattle.unpacker.proofs.ExtentLaws.{Extending, extent-start, extent-bounds, extent-more, extent-end}
 use Rattle.unpacker.proofs.extent_of.Statement.{statement}
 use Rattle.unpacker.proofs.extent_of.Tie as tie
 

@@ -6,8 +6,8 @@ use native.Mathlib.Omega.{arith}
 use lib.ListN.{length-set}
 use borrow.Author.Needs.{needs}
 use borrow.Author.Tests.{eq-eqb, ne-eqb}
-use Rattle.unpacker.specs.Inside.{writesFor}
-use Rattle.unpacker.proofs.ExtentLaws.{writes-for-none, writes-for-some}
+use Rattle.stream.specs.Unpack.{writesFor}
+use Rattle.stream.proofs.UnpackLaws.{writes-for-none, writes-for-some}
 use Rattle.unpacker.proofs.PutLaws.{Putting, put-more}
 use Rattle.unpacker.proofs.put_command.Statement.{statement}
 use Rattle.unpacker.proofs.put_command.Tie as tie

@@ -55,7 +55,7 @@ returns-3 c =
 put-list-requires : tie.Need-put-list-requires
 put-list-requires c κs =
     let a = is-accepted (c .before .before .before .before) in
-    (search needs, (a .read, omega (arith, a .length-is, c .before .before .if3 .left)))
+    (search needs, (a .whole .read, omega (arith, a .whole .length-is, c .before .before .if3 .left)))
 
 same-length : tie.Need-same-length
 same-length c = search needs
