@@ -1,0 +1,5 @@
+pub mod ValueLaws
+pub mod CommandWalk
+pub mod GroupLaws
+pub mod PutLaws
+pub mod CallLaws

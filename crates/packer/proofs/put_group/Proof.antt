@@ -1,0 +1,185 @@
+-- `packer::put_group` meets its contract. Assumes nothing.
+use mathlib.Core.Logic.{_⊎_, ⊎-elim, inl, inr}
+use mathlib.Core.Path.{_≡_, sym, ap, _∙_}
+use Prim.Native.Nat.{_+_, _-_, _*_, _≤_, _<_}
+use native.Mathlib.Omega.{arith}
+use lib.ListN.{length}
+use borrow.Author.Needs.{needs}
+use borrow.Author.Tests.{ltb-true, ltb-false}
+use Rattle.commands.specs.Commands.{count}
+use Rattle.stream.specs.Read.{writes}
+use Rattle.stream.specs.Unpack.{writesFor}
+use Rattle.packer.specs.Inside.{byteAt}
+use Rattle.packer.proofs.CommandWalk.{byte-at}
+use Rattle.packer.proofs.PutLaws.{PuttingGroup, put-group-start, values-room, next-bounds, put-group-more}
+use Rattle.packer.proofs.PutLaws.{end-room, dummy-room, put-dummy, put-plain}
+use Rattle.packer.proofs.put_group.Statement.{statement}
+use Rattle.packer.proofs.put_group.Tie as tie
+
+abbrev Inv-loop : tie.InvT-loop
+Inv-loop table log pairs i buffer₀ to next₀ slot₀ word₀ end₀ none₀ buffer next slot word end none =
+    PuttingGroup log pairs i to buffer₀ next slot word end none buffer
+
+abbrev μ-loop : tie.MeasureT-loop
+μ-loop table log pairs i buffer₀ to next₀ slot₀ word₀ end₀ none₀ buffer next slot word end none = 4 - slot
+
+add-end : tie.Need-add-end Inv-loop μ-loop
+add-end c = omega (arith, c .before .before .pre .1 .room)
+
+loop-holds : tie.Need-loop-holds Inv-loop μ-loop
+loop-holds c = put-group-start (c .before .before .pre .1)
+
+-- a write is left
+at-next : (c : tie.Then1 Inv-loop μ-loop)
+    → c .before .before .loop .next < c .before .before .before .before .before .args .pairs
+at-next c =
+    ltb-true (c .before .before .loop .next) (c .before .before .before .before .before .args .pairs) (c .if1 .taken)
+
+mul-command-at-in : tie.Need-mul-command-at-in Inv-loop μ-loop
+mul-command-at-in c = omega (arith, at-next c, c .before .before .loop .inv .fits .is-log .few)
+
+mul-command-at-in-2 : tie.Need-mul-command-at-in-2 Inv-loop μ-loop
+mul-command-at-in-2 c = omega (arith, at-next c, c .before .before .loop .inv .fits .is-log .few)
+
+shared-slice-read-command-at-in : tie.Need-shared-slice-read-command-at-in Inv-loop μ-loop
+shared-slice-read-command-at-in c =
+    let p = c .before .before .before .loop .inv in
+    omega (arith, at-next (c .before), p .fits .is-log .even)
+
+command-at-in-requires : tie.Need-command-at-in-requires Inv-loop μ-loop
+command-at-in-requires c κs = search needs
+
+count-in-requires : tie.Need-count-in-requires Inv-loop μ-loop
+count-in-requires c κs = search needs
+
+-- its command, and how many parameters that takes
+byte-is : (c : tie.After-count-in Inv-loop μ-loop)
+    → let l = c .before .before .before .before .before in
+    c .before .command-at-in .result ≡ byteAt (writes (l .before .before .before .args .log .now)) (l .loop .next)
+byte-is c =
+    let l = c .before .before .before .before .before in
+    c .before .command-at-in .ensures
+    ∙ sym (byte-at (l .loop .inv .fits .is-log) (l .loop .next) (at-next (c .before .before .before)))
+
+counted : (c : tie.After-count-in Inv-loop μ-loop)
+    → let l = c .before .before .before .before .before in
+    c .count-in .result ≡ count (byteAt (writes (l .before .before .before .args .log .now)) (l .loop .next))
+counted c = c .count-in .ensures ∙ ap count (byte-is c)
+
+put-values-requires : tie.Need-put-values-requires Inv-loop μ-loop
+put-values-requires c κs =
+    let n = c .before in
+    let l = n .before .before .before .before .before in
+    values-room (l .loop .inv) (n .before .before .before .before .loop-test .taken)
+    (at-next (n .before .before .before)) _ (counted n)
+
+with-byte-requires : tie.Need-with-byte-requires Inv-loop μ-loop
+with-byte-requires c κs =
+    let t = c .before .before .before .before .before .before .before .before in
+    (t .loop-test .taken, t .before .loop .inv .word-small)
+
+writes-for-requires : tie.Need-writes-for-requires Inv-loop μ-loop
+writes-for-requires c κs = search needs
+
+-- the next command is within the log, and its parameters within the buffer
+bounds : (c : tie.After-writes-for Inv-loop μ-loop)
+    → let n = c .before .before .before .before .before .before in
+    let l = n .before .before .before .before .before .loop in
+    let k = n .count-in .result in
+    (l .end + k ≤ length (l .buffer)) × (l .next + writesFor k ≤ 4096)
+bounds c =
+    let n = c .before .before .before .before .before .before in
+    let t = n .before .before .before .before in
+    let p = t .before .loop .inv in (
+      values-room p (t .loop-test .taken) (at-next (n .before .before .before)) _ (counted n) .1,
+      next-bounds p (t .loop-test .taken) (at-next (n .before .before .before)) _ (counted n) .0,
+    )
+
+add-next : tie.Need-add-next Inv-loop μ-loop
+add-next c = omega (arith, bounds c .1, c .writes-for .ensures)
+
+add-end-2 : tie.Need-add-end-2 Inv-loop μ-loop
+add-end-2 c = omega (arith, bounds c .0)
+
+add-slot : tie.Need-add-slot Inv-loop μ-loop
+add-slot c = search needs
+
+loop-less : tie.Need-loop-less Inv-loop μ-loop
+loop-less c = search needs
+
+loop-again : tie.Need-loop-again Inv-loop μ-loop
+loop-again c =
+    let n = c .before .before .before .before .before .before in
+    let t = n .before .before .before .before in
+    let p = t .before .loop .inv in
+    let put = c .before .before .before .before .put-values in
+    let b = c .before .with-byte in
+    rw (c .writes-for .ensures)
+    (put-group-more p (t .loop-test .taken) (at-next (n .before .before .before)) _ (counted n) _ (put .ensures) _
+    (b .ensures .0 ∙ rw (byte-is n)) (b .ensures .1))
+
+-- the group is full, or the log is at its end
+ways : (c : tie.Left-loop Inv-loop μ-loop)
+    → (c .before .loop .slot ≡ 4) ⊎ (c .before .before .before .before .args .pairs ≤ c .before .loop .next)
+ways c =
+    let l = c .before .loop in
+    ⊎-elim (λ w. inr (ltb-false (l .next) (c .before .before .before .before .args .pairs) (w .1 .left)))
+    (λ w. inl (omega (arith, w .left, l .inv .taken .most))) (c .loop-test .came)
+
+mul-buffer : tie.Need-mul-buffer Inv-loop μ-loop
+mul-buffer c = omega (arith, end-room (c .before .loop .inv) (ways c), c .before .loop .inv .end-is)
+
+slice-write-buffer : tie.Need-slice-write-buffer Inv-loop μ-loop
+slice-write-buffer c = omega (arith, end-room (c .before .loop .inv) (ways c), c .before .loop .inv .end-is)
+
+mul-buffer-2 : tie.Need-mul-buffer-2 Inv-loop μ-loop
+mul-buffer-2 c = search needs
+
+slice-write-buffer-2 : tie.Need-slice-write-buffer-2 Inv-loop μ-loop
+slice-write-buffer-2 c = dummy-room (c .before .before .loop .inv) (ways (c .before)) (c .if2 .taken)
+
+add-t26 : tie.Need-add-t26 Inv-loop μ-loop
+add-t26 c = search needs
+
+same-length : tie.Need-same-length Inv-loop μ-loop
+same-length c = search needs
+
+returns : tie.Need-returns Inv-loop μ-loop
+returns c = put-dummy (c .before .before .loop .inv) (ways (c .before)) (c .if2 .taken)
+
+same-length-2 : tie.Need-same-length-2 Inv-loop μ-loop
+same-length-2 c = search needs
+
+returns-2 : tie.Need-returns-2 Inv-loop μ-loop
+returns-2 c = put-plain (c .before .before .loop .inv) (ways (c .before)) (c .if2 .left)
+
+pub put-group-spec : {M : Type 1} → statement M
+put-group-spec =
+    tie.close
+    (tie.spec
+    Inv-loop
+    μ-loop
+    add-end
+    loop-holds
+    mul-command-at-in
+    mul-command-at-in-2
+    shared-slice-read-command-at-in
+    command-at-in-requires
+    count-in-requires
+    put-values-requires
+    with-byte-requires
+    writes-for-requires
+    add-next
+    add-end-2
+    add-slot
+    loop-less
+    loop-again
+    mul-buffer
+    slice-write-buffer
+    mul-buffer-2
+    slice-write-buffer-2
+    add-t26
+    same-length
+    returns
+    same-length-2
+    returns-2)

@@ -1,0 +1,80 @@
+-- `packer::put_values` meets its contract. Assumes nothing.
+use Prim.Native.Nat.{_-_}
+use mathlib.Core.Path.{_≡_, refl, _∙_}
+use native.Mathlib.Omega.{arith}
+use Rattle.packer.proofs.ValueLaws.{Storing, store-more}
+use borrow.Author.Needs.{needs}
+use Rattle.packer.proofs.put_values.Statement.{statement}
+use Rattle.packer.proofs.put_values.Tie as tie
+
+abbrev Inv-loop : tie.InvT-loop
+Inv-loop log i count buffer₀ to j₀ buffer j = Storing log i count to buffer₀ buffer j
+
+abbrev μ-loop : tie.MeasureT-loop
+μ-loop log i count buffer₀ to j₀ buffer j = count - j
+
+loop-holds : tie.Need-loop-holds Inv-loop μ-loop
+loop-holds c = record { within = c .pre .0; room = c .pre .1; most = omega arith; same = refl; buffer = refl }
+
+add-buffer : tie.Need-add-buffer Inv-loop μ-loop
+add-buffer c = search needs
+
+mul-buffer : tie.Need-mul-buffer Inv-loop μ-loop
+mul-buffer c = search needs
+
+add-buffer-2 : tie.Need-add-buffer-2 Inv-loop μ-loop
+add-buffer-2 c = search needs
+
+mul-buffer-2 : tie.Need-mul-buffer-2 Inv-loop μ-loop
+mul-buffer-2 c = search needs
+
+shared-slice-read-buffer : tie.Need-shared-slice-read-buffer Inv-loop μ-loop
+shared-slice-read-buffer c = search needs
+
+add-buffer-3 : tie.Need-add-buffer-3 Inv-loop μ-loop
+add-buffer-3 c = search needs
+
+mul-buffer-3 : tie.Need-mul-buffer-3 Inv-loop μ-loop
+mul-buffer-3 c = search needs
+
+slice-write-buffer : tie.Need-slice-write-buffer Inv-loop μ-loop
+slice-write-buffer c = search needs
+
+add-j : tie.Need-add-j Inv-loop μ-loop
+add-j c = search needs
+
+loop-less : tie.Need-loop-less Inv-loop μ-loop
+loop-less c = search needs
+
+loop-again : tie.Need-loop-again Inv-loop μ-loop
+loop-again c = store-more (c .before .before .loop .inv) (c .before .loop-test .taken)
+
+same-length : tie.Need-same-length Inv-loop μ-loop
+same-length c = c .before .loop .inv .same
+
+returns : tie.Need-returns Inv-loop μ-loop
+returns c =
+    let s = c .before .loop .inv in
+    let e : c .before .loop .j ≡ c .before .before .args .count = omega (arith, s .most, c .loop-test .left) in
+    s .buffer ∙ rw e
+
+pub put-values-spec : {M : Type 1} → statement M
+put-values-spec =
+    tie.close
+    (tie.spec
+    Inv-loop
+    μ-loop
+    loop-holds
+    add-buffer
+    mul-buffer
+    add-buffer-2
+    mul-buffer-2
+    shared-slice-read-buffer
+    add-buffer-3
+    mul-buffer-3
+    slice-write-buffer
+    add-j
+    loop-less
+    loop-again
+    same-length
+    returns)
