@@ -76,7 +76,9 @@ one-if-requires : tie.Need-one-if-requires Inv-loop μ-loop
 one-if-requires c κs = search needs
 
 add-t17 : tie.Need-add-t17 Inv-loop μ-loop
-add-t17 c = omega (arith, group-bounds (c .before .before .loop .inv), c .one-if .ensures, one-most (c .before .before .loop .none))
+add-t17 c =
+    let l = c .before .before .loop in
+    omega (arith, group-bounds (l .inv), c .one-if .ensures, one-most (l .none))
 
 returns-2 : tie.Need-returns-2 Inv-loop μ-loop
 returns-2 c =
