@@ -24,8 +24,8 @@ use commands::port_of;
 use stream::OutputAnswer;
 use stream::one_if;
 use stream::refused;
+use stream::words_of;
 use stream::writes_for;
-use words::read_words;
 
 // The longest list, in words.
 const LONGEST: usize = 8192;
@@ -231,13 +231,6 @@ pub fn unpack(words: &[u32], output: &mut [u32]) -> OutputAnswer
     ListReader::new(words).unpack(output)
 }
 
-// Room for the longest list. A caller's proof has its length alone.
-fn longest_list() -> [u32; 8192]
-    ensures { λ r. ⌜ length r ≡ 8192 ⌝ }
-{
-    [0; 8192]
-}
-
 // A list that is given as bytes, little-endian words; 7 also for bytes that are not whole words.
 pub fn unpack_bytes(input: &[u8], output: &mut [u32]) -> OutputAnswer
     ensures { λ r. ⌜ Stores (onBytes (Unpack·unpack (length (now (output .entry)))) (now (input .entry))) r
@@ -250,7 +243,6 @@ pub fn unpack_bytes(input: &[u8], output: &mut [u32]) -> OutputAnswer
     if LONGEST < count {
         return refused(7, 0);
     }
-    let mut words = longest_list();
-    read_words(input, &mut words[..count]);
+    let words = words_of(input);
     unpack(&words[..count], output)
 }

@@ -1,13 +1,11 @@
 -- `unpacker::unpack_bytes` meets its contract. Assumes nothing.
-use mathlib.Core.List.{_++_}
-use mathlib.Core.Path.{_≡_, sym, ap, subst, _∙_}
-use Prim.Native.Nat.{_/_, _<_}
+use mathlib.Core.Path.{sym, ap, subst, _∙_}
+use Prim.Native.Nat.{_<_}
 use native.Mathlib.Omega.{arith}
-use lib.ListN.{length, take, drop}
-use lib.Seq.{length-take-le, length-front}
+use lib.ListN.{length}
 use borrow.Author.Needs.{needs}
 use Rattle.words.specs.Words.{wordsOf}
-use Rattle.words.proofs.Words.{length-wordsOf, read-all}
+use Rattle.words.proofs.Words.{length-wordsOf}
 use Rattle.stream.specs.Output.{Output, Stores}
 use Rattle.stream.specs.Unpack.{unpack}
 use Rattle.stream.proofs.OutputLaws.{stores-none, not-whole-words, whole-words}
@@ -36,42 +34,16 @@ returns-2 c =
     let h : 8192 < length words = omega (arith, length-wordsOf (a .input .now), c .before .if2 .taken) in
     stores-none 7 0 (c .refused2 .result) (a .output .now) (e ∙ too-long 0 n words h) (c .refused2 .ensures)
 
-longest-list-requires : tie.Need-longest-list-requires
-longest-list-requires c κs = search needs
-
-array-borrow-prefix-words : tie.Need-array-borrow-prefix-words
-array-borrow-prefix-words c = search needs
-
-slice-aggregate-read-words : tie.Need-slice-aggregate-read-words
-slice-aggregate-read-words c = sym (length-take-le _ (c .before .longest-list .result) (omega arith))
-
-read-words-requires : tie.Need-read-words-requires
-read-words-requires c κs = search needs
-
--- what is lent to the unpacker: the words of the input
-words-lent : (c : tie.After-words2)
-    → let made = c .before .before .before in
-    let bytes = made .before .before .before .before .before .args .input .now in
-    let n = length bytes / 4 in
-    take n (c .before .read-words .last .1 .0 ++ drop n (made .longest-list .result)) ≡ wordsOf bytes
-words-lent c =
-    let made = c .before .before .before in
-    let bytes = made .before .before .before .before .before .args .input .now in
-    let n = length bytes / 4 in
-    let blank = made .longest-list .result in
-    read-all bytes (take n blank) (drop n blank) (c .before .read-words .last .1 .0)
-    (length-take-le n blank (omega arith)) (c .before .read-words .ensures)
+words-of-requires : tie.Need-words-of-requires
+words-of-requires c κs = search needs
 
 array-share-prefix-words : tie.Need-array-share-prefix-words
-array-share-prefix-words c =
-    let made = c .before .before .before .longest-list .result in
-    rw (length-front made (c .before .read-words .last .1 .0) _ (c .before .read-words .kept .1 .0)) (omega arith)
+array-share-prefix-words c = search needs
 
 slice-aggregate-unpack : tie.Need-slice-aggregate-unpack
 slice-aggregate-unpack c =
-    let made = c .before .before .before .before in
-    let bytes = made .before .before .before .before .before .args .input .now in
-    rw (words-lent (c .before)) (omega (arith, length-wordsOf bytes))
+    let bytes = c .before .before .before .before .before .before .args .input .now in
+    rw (c .before .words-of .ensures) (omega (arith, length-wordsOf bytes))
 
 unpack-requires : tie.Need-unpack-requires
 unpack-requires c κs = search needs
@@ -81,14 +53,13 @@ same-length c = search needs
 
 returns-3 : tie.Need-returns-3
 returns-3 c =
-    let made = c .before .before .before .before .before .before .before .before in
-    let test = made .before .before in
-    let a = test .before .before .before .args in
+    let made = c .before .before .before .before .before in
+    let a = made .before .before .before .before .before .args in
     let n = length (a .output .now) in
     let u = c .before .before .unpack in
-    let e = whole-words (unpack n) (a .input .now) (test .if1 .left) in
+    let e = whole-words (unpack n) (a .input .now) (made .before .before .if1 .left) in
     subst (λ (o : Output). Stores o (u .result) (a .output .now) (u .last .1 .0))
-    (ap (unpack n) (words-lent (c .before .before .before .before .before)) ∙ sym e) (u .ensures)
+    (ap (unpack n) (made .words-of .ensures) ∙ sym e) (u .ensures)
 
 pub unpack-bytes-spec : {M : Type 1} → statement M
 unpack-bytes-spec =
@@ -98,10 +69,7 @@ unpack-bytes-spec =
     returns
     refused-requires-2
     returns-2
-    longest-list-requires
-    array-borrow-prefix-words
-    slice-aggregate-read-words
-    read-words-requires
+    words-of-requires
     array-share-prefix-words
     slice-aggregate-unpack
     unpack-requires
