@@ -85,21 +85,25 @@ unpack-fits i capacity l = by (ltb 8192 (length l)) (listCommands i l)
     by false (stopped n p) = zero-le
     by false (commands cs) = fitted-fits capacity (commandsLog cs)
 
--- an output of 32,768 numbers, 16,384 pairs, is never shorter than needed
-pub long-enough : (i : ℕ) (l : List ℕ)
-    → unpackFrom i 32768 l ≡ cond (ltb 8192 (length l)) (refusal 7 0)
+-- an output of 32,768 numbers, 16,384 pairs, or of more is never shorter than needed
+pub long-enough : (i capacity : ℕ) (l : List ℕ) → 32768 ≤ capacity
+    → unpackFrom i capacity l ≡ cond (ltb 8192 (length l)) (refusal 7 0)
     (onRead (listCommands i l) (λ cs. acceptance (commandsLog cs)))
 unfolding unpackFrom
-long-enough i l = by (ltb 8192 (length l)) refl (listCommands i l) refl
+long-enough i capacity l h = by (ltb 8192 (length l)) refl (listCommands i l) refl
   where
     by : (t : Bool) → ltb 8192 (length l) ≡ t → (r : Read) → listCommands i l ≡ r
-        → cond t (refusal 7 0) (onRead r (λ cs. fitted 32768 (commandsLog cs)))
+        → cond t (refusal 7 0) (onRead r (λ cs. fitted capacity (commandsLog cs)))
         ≡ cond t (refusal 7 0) (onRead r (λ cs. acceptance (commandsLog cs)))
     by true e r q = refl
     by false e (stopped n p) q = refl
     by false e (commands cs) q =
-        rw (le-ltb 32768 (length (commandsLog cs))
-        (omega (arith, few (length l) l i cs (omega arith) q, ltb-false 8192 (length l) e)))
+        rw (le-ltb capacity (length (commandsLog cs))
+        (omega (arith, h, few (length l) l i cs (omega arith) q, ltb-false 8192 (length l) e)))
+
+-- so a longer one makes no difference
+pub unpack-capped : (i capacity : ℕ) (l : List ℕ) → 32768 ≤ capacity → unpackFrom i capacity l ≡ unpackFrom i 32768 l
+unpack-capped i capacity l h = long-enough i capacity l h ∙ sym (long-enough i 32768 l (omega arith))
 
 -- ---- the numbers of an unpacked list
 
@@ -128,7 +132,8 @@ stops (suc n) l i m p h e =
 -- "the program prints them all and never answers 10"
 pub never-10 : (i : ℕ) (l : List ℕ) → unpackFrom i 32768 l .number ≡ 10 → ⊥
 never-10 i l e =
-    by (ltb 8192 (length l)) (listCommands i l) refl (sym (ap (λ (o : Output). o .number) (long-enough i l)) ∙ e)
+    by (ltb 8192 (length l)) (listCommands i l) refl
+    (sym (ap (λ (o : Output). o .number) (long-enough i 32768 l (omega arith))) ∙ e)
   where
     by : (t : Bool) (r : Read) → listCommands i l ≡ r
         → cond t (refusal 7 0) (onRead r (λ cs. acceptance (commandsLog cs))) .number ≡ 10

@@ -1,0 +1,46 @@
+// The calls of C's: packer and unpacker on byte slices. Document 01, "Packer and unpacker can be called from our C editor
+// on byte slices."
+ghost use mathlib.Core.Path.{_≡_};
+ghost use Prim.Native.Nat.{_/_, min};
+ghost use lib.ListN.{length};
+ghost use Rattle.stream.specs.Unpack.{unpack};
+ghost use Rattle.bridge.specs.Bytes.{onAllBytes, StoresBytes};
+use stream::OutputAnswer;
+use stream::refused;
+use unpacker::unpack_bytes;
+use words::write_words;
+
+// The longest log that a list is unpacked to, in words: 16,384 port writes.
+const LONGEST_LOG: usize = 32768;
+
+// Room for the longest log. A caller's proof has its length alone.
+fn longest_log() -> [u32; 32768]
+    ensures { λ r. ⌜ length r ≡ 32768 ⌝ }
+{
+    [0; 32768]
+}
+
+// The capacity in words of an output of so many bytes, or the most that is ever needed, where that is less.
+fn capacity_of(size: usize, most: usize) -> usize
+    ensures { λ r. ⌜ r ≡ min (size / 4) most ⌝ }
+{
+    let words = size / 4;
+    if words < most { words } else { most }
+}
+
+// A list as bytes is unpacked to a log as bytes, little-endian words both.
+#[no_mangle]
+pub extern "C" fn nauvelppi_unpack(list: &[u8], output: &mut [u8]) -> OutputAnswer
+    ensures { λ r. ⌜ StoresBytes (onAllBytes unpack (length (now (output .entry))) (now (list .entry))) r
+        (now (output .entry)) (now (output .exit)) ⌝ }
+{
+    if output.len() % 4 != 0 {
+        return refused(7, 0);
+    }
+    let capacity = capacity_of(output.len(), LONGEST_LOG);
+    let mut log = longest_log();
+    let answer = unpack_bytes(list, &mut log[..capacity]);
+    let length = answer.length as usize;
+    write_words(&log[..length], output);
+    answer
+}
