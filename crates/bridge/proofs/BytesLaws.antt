@@ -4,10 +4,10 @@ use mathlib.Core.List.{List, _++_, append-assoc}
 use mathlib.Core.Path.{_≡_, refl, sym, ap, _∙_}
 use Prim.Native.Nat.{ℕ, _/_, _%_, _≤_, _<_, min}
 use native.Mathlib.Omega.{arith}
-use lib.Dec.{leb}
+use lib.Dec.{leb, eqb}
 use lib.ListN.{length, take, drop, length-take}
 use lib.Seq.{take-all, take-append-seam, length-take-le}
-use borrow.Author.Tests.{eq-eqb, ne-eqb, leb-true, leb-false}
+use borrow.Author.Tests.{leb-true, leb-false}
 use Rattle.words.specs.Words.{bytesOf, over}
 use Rattle.words.proofs.Over.{over-none}
 use Rattle.stream.specs.declared.OutputAnswer.{OutputAnswer}
@@ -16,11 +16,11 @@ use Rattle.stream.proofs.OutputLaws.{on-bytes-fits}
 use Rattle.bridge.specs.Bytes.{onAllBytes, StoresBytes}
 
 -- an output that is not whole words is refused, and stores nothing
-pub refused-output : (f : ℕ → List ℕ → Output) (input old : List ℕ) (r : OutputAnswer) → (length old % 4 ≡ 0 → ⊥)
+pub refused-output : (f : ℕ → List ℕ → Output) (input old : List ℕ) (r : OutputAnswer) → eqb (length old % 4) 0 ≡ false
     → r ≡ answerOf (refusal 7 0) → StoresBytes (onAllBytes f (length old) input) r old old
 unfolding onAllBytes bytesOf
 refused-output f input old r h e =
-    rw (ne-eqb (length old % 4) 0 h) (record { answer = e; buffer = sym (over-none old) })
+    rw h (record { answer = e; buffer = sym (over-none old) })
 
 -- what a call stored, read back from the buffer that was lent to it and what lies behind that
 stored : {o : Output} {r : OutputAnswer} {old new : List ℕ} (rest : List ℕ) → Stores o r old new
@@ -39,7 +39,7 @@ pub record Call (f : ℕ → List ℕ → Output) (most : ℕ) : Type 0 where
 -- `part`, which these words then are
 pub record Made (f : ℕ → List ℕ → Output) (most size : ℕ) (input buffer part : List ℕ) (n : ℕ) (r : OutputAnswer)
     : Type 0 where
-  pub whole : size % 4 ≡ 0
+  pub whole : eqb (size % 4) 0 ≡ true
   pub capacity : n ≡ min (size / 4) most
   pub room : length buffer ≡ most
   pub stores : Stores (onBytes (f (length (take n buffer))) input) r (take n buffer) part
@@ -76,7 +76,7 @@ module _ {f : ℕ → List ℕ → Output} {most size : ℕ} {input buffer part 
 
     output-is : onBytes (f n) input ≡ onAllBytes f size input
     unfolding onAllBytes onBytes
-    output-is = rw (eq-eqb (size % 4) 0 (m .whole), same)
+    output-is = rw (m .whole, same)
 
     pub stores-bytes : {old new : List ℕ} → length old ≡ size
         → new ≡ over (bytesOf (take (length old / 4) (take (r .length) (part ++ drop n buffer)))) old

@@ -1,7 +1,8 @@
-// The calls of C's: packer and unpacker on byte slices. Document 01, "Packer and unpacker can be called from our C editor
-// on byte slices."
+// The calls of C's: packer and unpacker on byte slices. Document 01, "Packer and unpacker can be called from our C
+// editor on byte slices."
 ghost use mathlib.Core.Path.{_≡_};
-ghost use Prim.Native.Nat.{_/_, min};
+ghost use Prim.Native.Nat.{_/_, _%_, min};
+ghost use lib.Dec.{eqb};
 ghost use lib.ListN.{length};
 ghost use Rattle.stream.specs.Unpack.{unpack};
 ghost use Rattle.bridge.specs.Bytes.{onAllBytes, StoresBytes};
@@ -20,6 +21,13 @@ fn longest_log() -> [u32; 32768]
     [0; 32768]
 }
 
+// Whether so many bytes are whole words.
+fn is_whole(size: usize) -> bool
+    ensures { λ r. ⌜ r ≡ eqb (size % 4) 0 ⌝ }
+{
+    size % 4 == 0
+}
+
 // The capacity in words of an output of so many bytes, or the most that is ever needed, where that is less.
 fn capacity_of(size: usize, most: usize) -> usize
     ensures { λ r. ⌜ r ≡ min (size / 4) most ⌝ }
@@ -34,7 +42,7 @@ pub extern "C" fn nauvelppi_unpack(list: &[u8], output: &mut [u8]) -> OutputAnsw
     ensures { λ r. ⌜ StoresBytes (onAllBytes unpack (length (now (output .entry))) (now (list .entry))) r
         (now (output .entry)) (now (output .exit)) ⌝ }
 {
-    if output.len() % 4 != 0 {
+    if !is_whole(output.len()) {
         return refused(7, 0);
     }
     let capacity = capacity_of(output.len(), LONGEST_LOG);

@@ -1,8 +1,9 @@
 -- `bridge::nauvelppi_unpack` meets its contract. Assumes nothing.
-use mathlib.Core.Path.{refl, sym}
+use mathlib.Core.Path.{refl, sym, _∙_}
 use native.Mathlib.Omega.{arith}
 use lib.ListN.{length}
 use lib.Seq.{length-take-le}
+use borrow.Author.Tests.{not-true, not-false}
 use borrow.Author.Needs.{needs}
 use Rattle.stream.specs.Unpack.{unpack}
 use Rattle.unpacker.proofs.Capacity.{unpack-fits, unpack-capped}
@@ -10,14 +11,18 @@ use Rattle.bridge.proofs.BytesLaws.{refused-output, Call, Made, length-
 use Rattle.bridge.proofs.nauvelppi_unpack.Statement.{statement}
 use Rattle.bridge.proofs.nauvelppi_unpack.Tie as tie
 
+is-whole-requires : tie.Need-is-whole-requires
+is-whole-requires c κs = search needs
+
 refused-requires : tie.Need-refused-requires
 refused-requires c κs = search needs
 
 returns : tie.Need-returns
 returns c =
-    let a = c .before .before .before .before .args in
-    refused-output unpack (a .list .now) (a .output .now) (c .refused .result) (c .before .if1 .taken)
-    (c .refused .ensures)
+    let test = c .before .before in
+    let a = test .before .before .before .args in
+    refused-output unpack (a .list .now) (a .output .now) (c .refused .result)
+    (sym (test .is-whole .ensures) ∙ not-true (test .is-whole .result) (c .before .if1 .taken)) (c .refused .ensures)
 
 capacity-of-requires : tie.Need-capacity-of-requires
 capacity-of-requires c κs = search needs
@@ -40,13 +45,15 @@ call = record { fits = unpack-fits 0; capped = unpack-capped 0 }
 
 made : (c : tie.After-unpack-bytes)
     → let log = c .before .before in
-    let a = log .before .before .before .before .before .args in
+    let a = log .before .before .before .before .before .before .args in
     Made unpack 32768 (length (a .output .now)) (a .list .now) (log .longest-log .result)
     (c .unpack-bytes .last .1 .0) (log .before .capacity-of .result) (c .unpack-bytes .result)
 made c =
     let log = c .before .before in
+    let left = log .before .before in
+    let test = left .before .is-whole in
     record {
-      whole = log .before .before .if1 .left;
+      whole = sym (test .ensures) ∙ not-false (test .result) (left .if1 .left);
       capacity = log .before .capacity-of .ensures;
       room = log .longest-log .ensures;
       stores = c .unpack-bytes .ensures;
@@ -76,6 +83,7 @@ pub nauvelppi-unpack-spec : {M : Type 1} → statement M
 nauvelppi-unpack-spec =
     tie.close
     (tie.spec
+    is-whole-requires
     refused-requires
     returns
     capacity-of-requires
