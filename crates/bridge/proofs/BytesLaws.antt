@@ -5,8 +5,8 @@ use mathlib.Core.Path.{_≡_, refl, sym, ap, _∙_}
 use Prim.Native.Nat.{ℕ, _/_, _%_, _≤_, _<_, min}
 use native.Mathlib.Omega.{arith}
 use lib.Dec.{leb, eqb}
-use lib.ListN.{length, take, drop, length-take}
-use lib.Seq.{take-all, take-append-seam, length-take-le}
+use lib.ListN.{length, take, drop}
+use lib.Seq.{take-all, take-append-seam, length-take-le, length-front}
 use borrow.Author.Tests.{leb-true, leb-false}
 use Rattle.words.specs.Words.{bytesOf, over}
 use Rattle.words.proofs.Over.{over-none}
@@ -41,25 +41,30 @@ pub record Made (f : ℕ → List ℕ → Output) (most size : ℕ) (input buffe
     : Type 0 where
   pub whole : eqb (size % 4) 0 ≡ true
   pub capacity : n ≡ min (size / 4) most
-  pub room : length buffer ≡ most
+  pub long : length buffer ≡ most
   pub stores : Stores (onBytes (f (length (take n buffer))) input) r (take n buffer) part
+  pub kept : length part ≡ length (take n buffer)
 
 module _ {f : ℕ → List ℕ → Output} {most size : ℕ} {input buffer part : List ℕ} {n : ℕ} {r : OutputAnswer}
     (m : Made f most size input buffer part n r) where
   stores-n : Stores (onBytes (f n) input) r (take n buffer) part
-  stores-n = rw (length-take-le n buffer (omega (arith, m .capacity, m .room))) at (m .stores)
+  stores-n = rw (length-take-le n buffer (omega (arith, m .capacity, m .long))) at (m .stores)
 
   -- the words that are then written as bytes
   words-lent : take (r .length) (part ++ drop n buffer) ≡ onBytes (f n) input .words
   words-lent = stored (drop n buffer) stores-n
 
-  pub length-lent : length (take (r .length) (part ++ drop n buffer)) ≡ r .length
-  length-lent = ap length words-lent ∙ sym (ap (λ (x : OutputAnswer). x .length) (stores-n .answer))
-
-  pub lent-fits : r .length ≤ length (part ++ drop n buffer)
-  lent-fits = omega (arith, length-lent, length-take (r .length) (part ++ drop n buffer))
+  -- the buffer is as long as before
+  pub length-buffer : length (part ++ drop n buffer) ≡ most
+  length-buffer = length-front buffer part n (m .kept) ∙ m .long
 
   module _ (call : Call f most) where
+    words-fit : length (onBytes (f n) input .words) ≤ n
+    words-fit = on-bytes-fits (f n) n (call .fits n) input
+
+    pub length-fits : r .length ≤ most
+    length-fits = omega (arith, words-fit, ap (λ (x : OutputAnswer). x .length) (stores-n .answer), m .capacity)
+
     -- the call of the output's own capacity
     same : (l : List ℕ) → f n l ≡ f (size / 4) l
     same l = by (leb most (size / 4)) (leb-true most (size / 4)) (leb-false most (size / 4))
@@ -83,8 +88,7 @@ module _ {f : ℕ → List ℕ → Output} {most size : ℕ} {input buffer part 
         → StoresBytes (onAllBytes f size input) r old new
     stores-bytes {old} {new} e q =
         let words : List ℕ = onBytes (f n) input .words in
-        let fit : length words ≤ n = on-bytes-fits (f n) n (call .fits n) input in
         let all : take (length old / 4) words ≡ words =
-        take-all (length old / 4) words (omega (arith, fit, e, m .capacity)) in
+        take-all (length old / 4) words (omega (arith, words-fit, e, m .capacity)) in
         rw (← output-is)
         (record { answer = stores-n .answer; buffer = q ∙ rw (words-lent, all) })

@@ -7,7 +7,7 @@ use borrow.Author.Tests.{not-true, not-false}
 use borrow.Author.Needs.{needs}
 use Rattle.stream.specs.Unpack.{unpack}
 use Rattle.unpacker.proofs.Capacity.{unpack-fits, unpack-capped}
-use Rattle.bridge.proofs.BytesLaws.{refused-output, Call, Made, length-lent, lent-fits, stores-bytes}
+use Rattle.bridge.proofs.BytesLaws.{refused-output, Call, Made, length-buffer, length-fits, stores-bytes}
 use Rattle.bridge.proofs.nauvelppi_unpack.Statement.{statement}
 use Rattle.bridge.proofs.nauvelppi_unpack.Tie as tie
 
@@ -55,18 +55,23 @@ made c =
     record {
       whole = sym (test .ensures) ∙ not-false (test .result) (left .if1 .left);
       capacity = log .before .capacity-of .ensures;
-      room = log .longest-log .ensures;
+      long = log .longest-log .ensures;
       stores = c .unpack-bytes .ensures;
+      kept = c .unpack-bytes .kept .1 .0;
     }
 
 cast-length : tie.Need-cast-length
 cast-length c = search needs
 
 array-share-prefix-log : tie.Need-array-share-prefix-log
-array-share-prefix-log c = lent-fits (made (c .before .before))
+array-share-prefix-log c =
+    let m = made (c .before .before) in
+    omega (arith, length-buffer m, length-fits m call)
 
 slice-aggregate-write-words : tie.Need-slice-aggregate-write-words
-slice-aggregate-write-words c = sym (length-lent (made (c .before .before .before)))
+slice-aggregate-write-words c =
+    let m = made (c .before .before .before) in
+    sym (length-take-le _ _ (omega (arith, length-buffer m, length-fits m call)))
 
 write-words-requires : tie.Need-write-words-requires
 write-words-requires c κs = search needs
