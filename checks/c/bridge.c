@@ -31,8 +31,8 @@ static void put_words(uint8_t *bytes, const uint32_t *words, size_t count)
 /* A call on bytes, with an output of `size` bytes: the answer, and the words that the output must hold from its first
  * byte on, none on a refusal; each byte past them is the one that was there before. Both buffers begin at an odd
  * address. */
-static void on_bytes(const char *name, call *made, const uint8_t *input, size_t input_size, size_t size, uint32_t number,
-                     uint32_t place, const uint32_t *words, uint32_t count)
+static void on_bytes(const char *name, call *made, const uint8_t *input, size_t input_size, size_t size,
+                     uint32_t number, uint32_t place, const uint32_t *words, uint32_t count)
 {
     static uint8_t given[ROOM], output[ROOM], expected[ROOM];
     uint8_t *in = given + 1, *out = output + 1;
@@ -122,7 +122,7 @@ static void unpack_checks(void)
              LONGEST_LOG);
     on_words("unpack to the longest log, longer output", nauvelppi_unpack, many, LONGEST_LIST, LONGEST_LOG + 8, 0, 0,
              made_of_many, LONGEST_LOG);
-    refused("unpack to the longest log, output too short", nauvelppi_unpack, many, LONGEST_LIST, LONGEST_LOG - 1, 10, 0);
+    refused("unpack to the longest log, short output", nauvelppi_unpack, many, LONGEST_LIST, LONGEST_LOG - 1, 10, 0);
     refused("unpack, list too long", nauvelppi_unpack, many, LONGEST_LIST + 1, LONGEST_LOG, 7, 0);
 }
 
@@ -179,7 +179,7 @@ static void pack_checks(void)
              (uint32_t)count);
     on_words("pack the longest log, longer output", nauvelppi_pack, many, LONGEST_LIST, LONGEST_LIST + 8, 0, 0,
              made_of_many, (uint32_t)count);
-    refused("pack the longest log, output too short", nauvelppi_pack, many, LONGEST_LIST, count - 1, 10, 0);
+    refused("pack the longest log, short output", nauvelppi_pack, many, LONGEST_LIST, count - 1, 10, 0);
     refused("pack, log too long", nauvelppi_pack, many, LONGEST_LIST + 2, LONGEST_LIST, 7, 0);
 }
 
@@ -187,8 +187,9 @@ static void pack_checks(void)
  * log again, with 0 as the value of each write to a port without parameters. */
 static void round_trips(void)
 {
-    static const uint8_t commands[][2] = {{0x10, 1},  {0x11, 0}, {0x15, 0}, {0x16, 16}, {0x17, 12}, {0x1a, 9}, {0x1b, 3},
-                                          {0x41, 0}, {0x23, 2}, {0x34, 32}, {0x40, 1},  {0x71, 2}, {0x41, 0}, {0x50, 1}};
+    static const uint8_t commands[][2] = {{0x10, 1}, {0x11, 0}, {0x15, 0}, {0x16, 16}, {0x17, 12},
+                                          {0x1a, 9}, {0x1b, 3}, {0x41, 0}, {0x23, 2},  {0x34, 32},
+                                          {0x40, 1}, {0x71, 2}, {0x41, 0}, {0x50, 1}};
     static uint8_t log[4 * LONGEST_LIST], list[4 * LONGEST_LIST], back[4 * LONGEST_LOG];
     for (size_t first = 0; first < COUNT(commands); first++) {
         size_t count = 0;
