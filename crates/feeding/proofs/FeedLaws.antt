@@ -1,16 +1,31 @@
--- Items fed one by one, over any call: where a loop that feeds them stands, and what a feed without a refusal gives.
--- Assumes nothing.
+-- Items fed one by one, over any call: what is so at each turn of a loop that feeds them, and what it gives where no item
+-- is refused. Assumes nothing.
 use mathlib.Core.List.{List, [], _∷_}
 use mathlib.Core.Path.{_≡_, refl, sym, ap, subst, _∙_}
-use Prim.Native.Nat.{ℕ, suc, _+_, _≤_, _<_}
+use Prim.Native.Nat.{ℕ, suc, _+_, _*_, _/_, _≤_, _<_}
 use native.Mathlib.Omega.{arith}
 use native.Mathlib.Numerals.{add-one}
 use lib.ListN.{length, getD, drop, drop-of-length-le}
 use lib.Seq.{drop-cons}
 use borrow.Author.Tests.{eq-eqb, ne-eqb}
+use Rattle.stream.specs.Command.{Write, write}
+use Rattle.stream.specs.Read.{writes}
 use Rattle.stream.specs.Call.{Machine, Reply}
 use Rattle.stream.specs.Demand3.{after, AllTaken}
+use Rattle.stream.proofs.UnpackLaws.{length-writes}
+use Rattle.stream.proofs.WriteLaws.{writes-at}
 use Rattle.feeding.specs.Feed.{Fed, fed, oneMore, feed}
+
+-- the items from place i on are the one there and those behind it
+pub next-item : {A : Type 0} (l : List A) (i : ℕ) (d : A) → i < length l → drop i l ≡ getD l i d ∷ drop (i + 1) l
+next-item l i d h = rw (add-one i) (drop-cons l i d h)
+
+pub next-write : (log : List ℕ) (i : ℕ) → i < length log / 2
+    → drop i (writes log) ≡ write (getD log (2 * i) 0) (getD log (2 * i + 1) 0) ∷ drop (i + 1) (writes log)
+next-write log i h =
+    let inside : i < length (writes log) = rw (length-writes log) h in
+    next-item (writes log) i (write 0 0) inside
+    ∙ ap (λ (w : Write). w ∷ drop (i + 1) (writes log)) (writes-at log i (omega arith))
 
 module _ {State A : Type 0} (call : Machine State → A → Reply State) where
   fed-taken : (m : Machine State) (a : A) (l : List A) → call m a .number ≡ 0
@@ -33,44 +48,40 @@ module _ {State A : Type 0} (call : Machine State → A → Reply State) where
 
   -- The invariant of a loop that feeds the items l to m: i are taken and have left the machine n
   pub record Feeding (m : Machine State) (l : List A) (i : ℕ) (n : Machine State) : Type 0 where
-    pub within : i ≤ length l
     pub same : feed call m l ≡ more i (feed call n (drop i l))
 
   pub none-fed : (m : Machine State) (l : List A) → Feeding m l 0 m
   none-fed m l =
       let f = feed call m l in
-      record { within = omega arith; same = ap (λ (k : ℕ). fed k (f .number) (f .left)) (omega arith) }
+      record { same = ap (λ (k : ℕ). fed k (f .number) (f .left)) (omega arith) }
 
   module _ {m : Machine State} {l : List A} {i : ℕ} {n : Machine State} (f : Feeding m l i n) where
-    -- the next item, a, and those behind it are to come
-    to-come : (a d : A) → i < length l → getD l i d ≡ a → feed call m l ≡ more i (feed call n (a ∷ drop (i + 1) l))
-    to-come a d h e =
-        let rest : drop i l ≡ a ∷ drop (i + 1) l = rw (add-one i, ← e) (drop-cons l i d h) in
-        f .same ∙ ap (λ (k : List A). more i (feed call n k)) rest
+    -- a is the next item
+    to-come : (a : A) → drop i l ≡ a ∷ drop (i + 1) l → feed call m l ≡ more i (feed call n (a ∷ drop (i + 1) l))
+    to-come a e = f .same ∙ ap (λ (k : List A). more i (feed call n k)) e
 
     -- it is taken
-    pub one-fed : (a d : A) → i < length l → getD l i d ≡ a
+    pub one-fed : (a : A) → drop i l ≡ a ∷ drop (i + 1) l
         → (r : Reply State) → r ≡ call n a → r .number ≡ 0 → Feeding m l (i + 1) (r .left)
-    one-fed a d h e r told t =
+    one-fed a e r told t =
         let behind = drop (i + 1) l in
         let x = feed call (call n a .left) behind in
         let count : i + suc (x .taken) ≡ i + 1 + x .taken = omega arith in
         let taken : call n a .number ≡ 0 = ap (λ (y : Reply State). y .number) (sym told) ∙ t in
         subst (λ (y : Reply State). Feeding m l (i + 1) (y .left)) (sym told) (record {
-          within = omega arith;
-          same = to-come a d h e ∙ ap (more i) (fed-taken n a behind taken)
+          same = to-come a e ∙ ap (more i) (fed-taken n a behind taken)
               ∙ ap (λ (k : ℕ). fed k (x .number) (x .left)) count;
         })
 
     -- it is refused
-    pub one-refused : (a d : A) → i < length l → getD l i d ≡ a
+    pub one-refused : (a : A) → drop i l ≡ a ∷ drop (i + 1) l
         → (r : Reply State) → r ≡ call n a → (r .number ≡ 0 → ⊥) → fed i (r .number) (r .left) ≡ feed call m l
-    one-refused a d h e r told t =
+    one-refused a e r told t =
         let count : i ≡ i + 0 = omega arith in
         let refused : call n a .number ≡ 0 → ⊥ = λ z. t (ap (λ (y : Reply State). y .number) told ∙ z) in
         ap (λ (y : Reply State). fed i (y .number) (y .left)) told
         ∙ ap (λ (k : ℕ). fed k (call n a .number) (call n a .left)) count
-        ∙ sym (to-come a d h e ∙ ap (more i) (fed-refused n a (drop (i + 1) l) refused))
+        ∙ sym (to-come a e ∙ ap (more i) (fed-refused n a (drop (i + 1) l) refused))
 
     -- none is left
     pub all-fed : length l ≤ i → fed i 0 n ≡ feed call m l

@@ -5,7 +5,6 @@ ghost use Rattle.engine.specs.Call.{machineOf, wordReply, portReply};
 ghost use Rattle.feeding.specs.Feed.{feed, fedOf};
 use engine::port_write;
 use engine::word;
-use state::Answer;
 use state::Engine;
 
 // How many were taken, the number of the first refusal or 0, and the engine after those that were taken.

@@ -4,12 +4,10 @@ use Prim.Native.Nat.{_-_}
 use native.Mathlib.Omega.{arith}
 use lib.ListN.{length}
 use borrow.Author.Needs.{needs}
-use Rattle.stream.specs.Command.{write}
 use Rattle.stream.specs.Read.{writes}
 use Rattle.stream.proofs.UnpackLaws.{length-writes}
-use Rattle.stream.proofs.WriteLaws.{writes-at}
 use Rattle.engine.specs.Call.{machineOf, replyOf, portReply}
-use Rattle.feeding.proofs.FeedLaws.{Feeding, none-fed, one-fed, one-refused, all-fed}
+use Rattle.feeding.proofs.FeedLaws.{next-write, Feeding, none-fed, one-fed, one-refused, all-fed}
 use Rattle.feeding.proofs.feed_writes.Statement.{statement}
 use Rattle.feeding.proofs.feed_writes.Tie as tie
 
@@ -59,9 +57,7 @@ returns c =
     let called = c .before .before .before .before .before .before in
     let turn = called .before .before .before .before .before in
     let log = turn .before .before .before .before .args .log .now in
-    let i = turn .before .loop .i in
-    one-refused portReply (turn .before .loop .inv .0) _ (write 0 0)
-    (rw (length-writes log) (turn .loop-test .taken)) (writes-at log i (omega (arith, turn .loop-test .taken)))
+    one-refused portReply (turn .before .loop .inv .0) _ (next-write log _ (turn .loop-test .taken))
     (replyOf (called .port-write .result) _ _) (called .port-write .ensures .0)
     (λ z. omega (arith, c .if1 .taken))
 
@@ -77,10 +73,8 @@ loop-again : tie.Need-loop-again Inv-loop μ-loop
 loop-again c =
     let called = c .before .before .before .before .before .before in
     let turn = called .before .before .before .before .before in
-    let log = turn .before .before .before .before .args .log .now in
-    let i = turn .before .loop .i in (
-      one-fed portReply (turn .before .loop .inv .0) _ (write 0 0)
-          (rw (length-writes log) (turn .loop-test .taken)) (writes-at log i (omega (arith, turn .loop-test .taken)))
+    let log = turn .before .before .before .before .args .log .now in (
+      one-fed portReply (turn .before .loop .inv .0) _ (next-write log _ (turn .loop-test .taken))
           (replyOf (called .port-write .result) _ _) (called .port-write .ensures .0) (c .if1 .left),
       search needs,
       search needs,
