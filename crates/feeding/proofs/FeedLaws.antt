@@ -5,7 +5,7 @@ use mathlib.Core.Path.{_≡_, refl, sym, ap, subst, _∙_}
 use Prim.Native.Nat.{ℕ, suc, _+_, _*_, _/_, _≤_, _<_}
 use native.Mathlib.Omega.{arith}
 use native.Mathlib.Numerals.{add-one}
-use lib.ListN.{length, getD, drop, drop-of-length-le}
+use lib.ListN.{length, getD, drop, length-drop, drop-of-length-le}
 use lib.Seq.{drop-cons}
 use borrow.Author.Tests.{eq-eqb, ne-eqb}
 use Rattle.stream.specs.Command.{Write, write}
@@ -26,6 +26,9 @@ next-write log i h =
     let inside : i < length (writes log) = rw (length-writes log) h in
     next-item (writes log) i (write 0 0) inside
     ∙ ap (λ (w : Write). w ∷ drop (i + 1) (writes log)) (writes-at log i (omega arith))
+
+one-inside : {A : Type 0} (l : List A) (i : ℕ) {a : A} {k : List A} → drop i l ≡ a ∷ k → i + 1 ≤ length l
+one-inside l i {a} {k} e = omega (arith, ap length e, length-drop i l)
 
 module _ {State A : Type 0} (call : Machine State → A → Reply State) where
   fed-taken : (m : Machine State) (a : A) (l : List A) → call m a .number ≡ 0
@@ -48,12 +51,13 @@ module _ {State A : Type 0} (call : Machine State → A → Reply State) where
 
   -- The invariant of a loop that feeds the items l to m: i are taken and have left the machine n
   pub record Feeding (m : Machine State) (l : List A) (i : ℕ) (n : Machine State) : Type 0 where
+    pub within : i ≤ length l
     pub same : feed call m l ≡ more i (feed call n (drop i l))
 
   pub none-fed : (m : Machine State) (l : List A) → Feeding m l 0 m
   none-fed m l =
       let f = feed call m l in
-      record { same = ap (λ (k : ℕ). fed k (f .number) (f .left)) (omega arith) }
+      record { within = omega arith; same = ap (λ (k : ℕ). fed k (f .number) (f .left)) (omega arith) }
 
   module _ {m : Machine State} {l : List A} {i : ℕ} {n : Machine State} (f : Feeding m l i n) where
     -- a is the next item
@@ -67,8 +71,10 @@ module _ {State A : Type 0} (call : Machine State → A → Reply State) where
         let behind = drop (i + 1) l in
         let x = feed call (call n a .left) behind in
         let count : i + suc (x .taken) ≡ i + 1 + x .taken = omega arith in
+        let inside : i + 1 ≤ length l = one-inside l i e in
         let taken : call n a .number ≡ 0 = ap (λ (y : Reply State). y .number) (sym told) ∙ t in
         subst (λ (y : Reply State). Feeding m l (i + 1) (y .left)) (sym told) (record {
+          within = inside;
           same = to-come a e ∙ ap (more i) (fed-taken n a behind taken)
               ∙ ap (λ (k : ℕ). fed k (x .number) (x .left)) count;
         })
@@ -84,8 +90,9 @@ module _ {State A : Type 0} (call : Machine State → A → Reply State) where
         ∙ sym (to-come a e ∙ ap (more i) (fed-refused n a (drop (i + 1) l) refused))
 
     -- none is left
-    pub all-fed : length l ≤ i → fed i 0 n ≡ feed call m l
-    all-fed h =
-        let count : i ≡ i + 0 = omega arith in
-        ap (λ (k : ℕ). fed k 0 n) count
-        ∙ sym (f .same ∙ ap (λ (k : List A). more i (feed call n k)) (drop-of-length-le l {i = i} h))
+    pub all-fed : (k : ℕ) → k ≡ length l → k ≤ i → fed k 0 n ≡ feed call m l
+    all-fed k e h =
+        let none : drop i l ≡ [] = drop-of-length-le l {i = i} (omega (arith, e)) in
+        let count : k ≡ i + 0 = omega (arith, f .within) in
+        ap (λ (t : ℕ). fed t 0 n) count
+        ∙ sym (f .same ∙ ap (λ (t : List A). more i (feed call n t)) none)

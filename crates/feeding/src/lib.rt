@@ -34,7 +34,7 @@ pub fn feed_words(e: Engine, words: &[u32], vertices: &mut [i32], polygons: &mut
         i += 1;
     }
     Fed {
-        taken: i,
+        taken: words.len(),
         number: 0,
         engine: n,
     }
@@ -46,29 +46,25 @@ pub fn feed_writes(e: Engine, log: &[u32], vertices: &mut [i32], polygons: &mut 
     ensures { λ r. ⌜ fedOf r (now (vertices .exit)) (now (polygons .exit))
         ≡ feed portReply (machineOf e (now (vertices .entry)) (now (polygons .entry))) (writes (now (log .entry))) ⌝ }
 {
-    let count = log.len() / 2;
+    let pairs = log.len() / 2;
     let mut n = e;
-    let mut i = 0;
-    while i < count {
-        let answer = port_write(
-            n,
-            log[2 * i],
-            log[2 * i + 1],
-            &mut *vertices,
-            &mut *polygons,
-        );
-        n = answer.engine;
-        if answer.number != 0 {
+    let mut pair = 0;
+    while pair < pairs {
+        let address = log[2 * pair];
+        let value = log[2 * pair + 1];
+        let written = port_write(n, address, value, &mut *vertices, &mut *polygons);
+        n = written.engine;
+        if written.number != 0 {
             return Fed {
-                taken: i,
-                number: answer.number,
+                taken: pair,
+                number: written.number,
                 engine: n,
             };
         }
-        i += 1;
+        pair += 1;
     }
     Fed {
-        taken: i,
+        taken: pairs,
         number: 0,
         engine: n,
     }

@@ -67,7 +67,7 @@ same-length-4 : tie.Need-same-length-4 Inv-loop μ-loop
 same-length-4 c = search needs
 
 returns-2 : tie.Need-returns-2 Inv-loop μ-loop
-returns-2 c = all-fed wordReply (c .before .loop .inv .0) (c .loop-test .left)
+returns-2 c = all-fed wordReply (c .before .loop .inv .0) _ refl (c .loop-test .left)
 
 pub feed-words-spec : {M : Type 1} → statement M
 feed-words-spec =

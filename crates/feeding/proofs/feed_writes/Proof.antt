@@ -1,5 +1,5 @@
 -- `feeding::feed_writes` meets its contract. Assumes nothing.
-use mathlib.Core.Path.{_≡_, refl}
+use mathlib.Core.Path.{_≡_, refl, sym}
 use Prim.Native.Nat.{_-_}
 use native.Mathlib.Omega.{arith}
 use lib.ListN.{length}
@@ -12,36 +12,36 @@ use Rattle.feeding.proofs.feed_writes.Statement.{statement}
 use Rattle.feeding.proofs.feed_writes.Tie as tie
 
 abbrev Inv-loop : tie.InvT-loop
-Inv-loop log vertices₀ polygons₀ count n₀ i₀ vertices polygons n i =
-    Feeding portReply (machineOf n₀ vertices₀ polygons₀) (writes log) i (machineOf n vertices polygons)
+Inv-loop log vertices₀ polygons₀ pairs n₀ pair₀ vertices polygons n pair =
+    Feeding portReply (machineOf n₀ vertices₀ polygons₀) (writes log) pair (machineOf n vertices polygons)
     × (length vertices ≡ length vertices₀) × (length polygons ≡ length polygons₀)
 
 abbrev μ-loop : tie.MeasureT-loop
-μ-loop log vertices₀ polygons₀ count n₀ i₀ vertices polygons n i = count - i
+μ-loop log vertices₀ polygons₀ pairs n₀ pair₀ vertices polygons n pair = pairs - pair
 
 loop-holds : tie.Need-loop-holds Inv-loop μ-loop
 loop-holds c = (none-fed portReply _ _, refl, refl)
 
-mul-port-write : tie.Need-mul-port-write Inv-loop μ-loop
-mul-port-write c = search needs
+mul-address : tie.Need-mul-address Inv-loop μ-loop
+mul-address c = search needs
 
-mul-port-write-2 : tie.Need-mul-port-write-2 Inv-loop μ-loop
-mul-port-write-2 c = search needs
+mul-address-2 : tie.Need-mul-address-2 Inv-loop μ-loop
+mul-address-2 c = search needs
 
-shared-slice-read-port-write : tie.Need-shared-slice-read-port-write Inv-loop μ-loop
-shared-slice-read-port-write c = search needs
+shared-slice-read-address : tie.Need-shared-slice-read-address Inv-loop μ-loop
+shared-slice-read-address c = search needs
 
-mul-port-write-3 : tie.Need-mul-port-write-3 Inv-loop μ-loop
-mul-port-write-3 c = search needs
+mul-value : tie.Need-mul-value Inv-loop μ-loop
+mul-value c = search needs
 
-add-port-write : tie.Need-add-port-write Inv-loop μ-loop
-add-port-write c = search needs
+add-value : tie.Need-add-value Inv-loop μ-loop
+add-value c = search needs
 
-mul-port-write-4 : tie.Need-mul-port-write-4 Inv-loop μ-loop
-mul-port-write-4 c = search needs
+mul-value-2 : tie.Need-mul-value-2 Inv-loop μ-loop
+mul-value-2 c = search needs
 
-shared-slice-read-port-write-2 : tie.Need-shared-slice-read-port-write-2 Inv-loop μ-loop
-shared-slice-read-port-write-2 c = search needs
+shared-slice-read-value : tie.Need-shared-slice-read-value Inv-loop μ-loop
+shared-slice-read-value c = search needs
 
 port-write-requires : tie.Need-port-write-requires Inv-loop μ-loop
 port-write-requires c κs = search needs
@@ -61,8 +61,8 @@ returns c =
     (replyOf (called .port-write .result) _ _) (called .port-write .ensures .0)
     (λ z. omega (arith, c .if1 .taken))
 
-add-i : tie.Need-add-i Inv-loop μ-loop
-add-i c =
+add-pair : tie.Need-add-pair Inv-loop μ-loop
+add-pair c =
     let turn = c .before .before .before .before .before .before .before .before .before .before .before in
     omega (arith, turn .before .before .before .before .good .1 .0, turn .loop-test .taken)
 
@@ -89,7 +89,7 @@ same-length-4 c = search needs
 returns-2 : tie.Need-returns-2 Inv-loop μ-loop
 returns-2 c =
     let log = c .before .before .before .before .args .log .now in
-    all-fed portReply (c .before .loop .inv .0) (rw (length-writes log) (c .loop-test .left))
+    all-fed portReply (c .before .loop .inv .0) _ (sym (length-writes log)) (c .loop-test .left)
 
 pub feed-writes-spec : {M : Type 1} → statement M
 feed-writes-spec =
@@ -98,18 +98,18 @@ feed-writes-spec =
     Inv-loop
     μ-loop
     loop-holds
-    mul-port-write
-    mul-port-write-2
-    shared-slice-read-port-write
-    mul-port-write-3
-    add-port-write
-    mul-port-write-4
-    shared-slice-read-port-write-2
+    mul-address
+    mul-address-2
+    shared-slice-read-address
+    mul-value
+    add-value
+    mul-value-2
+    shared-slice-read-value
     port-write-requires
     same-length
     same-length-2
     returns
-    add-i
+    add-pair
     loop-less
     loop-again
     same-length-3
