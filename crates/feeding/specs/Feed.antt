@@ -8,7 +8,7 @@ use Rattle.stream.specs.Call.{Machine, Reply}
 use Rattle.state.specs.declared.Core.{Core}
 use Rattle.polygons.specs.Buffers.{Buffered}
 use Rattle.engine.specs.Call.{machineOf}
-use Rattle.feeding.specs.declared.Fed.{Fed as Answer}
+use Rattle.feeding.specs.declared.Fed.{Fed as FedAnswer}
 
 -- how many items were taken, the number of the first refusal, 0 where there is none, and the machine at the end. The
 -- place of the refusal among the items, counted from 0, is `taken`.
@@ -18,11 +18,10 @@ pub record Fed (State : Type 0) : Type 0 where
   pub left : Machine State
 
 module _ {State : Type 0} where
-  -- n items taken
   abbrev pub fed : ℕ → ℕ → Machine State → Fed State
   fed taken number m = record { taken = taken; number = number; left = m }
 
-  -- an item was taken before
+  -- an item more was taken, before the others
   abbrev pub oneMore : Fed State → Fed State
   oneMore f = fed (suc (f .taken)) (f .number) (f .left)
 
@@ -37,5 +36,5 @@ module _ {State A : Type 0} (call : Machine State → A → Reply State) where
       (fed 0 (call m a .number) (call m a .left))
 
 -- what an answer and the two buffers stand for
-abbrev pub fedOf : Answer → List ℤ → List ℕ → Fed (Buffered Core)
+abbrev pub fedOf : FedAnswer → List ℤ → List ℕ → Fed (Buffered Core)
 fedOf r vertices polygons = fed (r .taken) (r .number) (machineOf (r .engine) vertices polygons)
