@@ -1,5 +1,5 @@
--- Items fed one by one, over any call: what is so at each turn of a loop that feeds them, and what it gives where no item
--- is refused. Assumes nothing.
+-- Items fed one by one, over any call: what holds at each turn of a loop that feeds them, and what it gives where no
+-- item is refused. Assumes nothing.
 use mathlib.Core.List.{List, [], _∷_}
 use mathlib.Core.Path.{_≡_, refl, sym, ap, subst, _∙_}
 use Prim.Native.Nat.{ℕ, suc, _+_, _*_, _/_, _≤_, _<_}
