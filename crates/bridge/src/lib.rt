@@ -4,12 +4,18 @@ ghost use mathlib.Core.Path.{_≡_};
 ghost use Prim.Native.Nat.{_/_, _%_, min};
 ghost use lib.Dec.{eqb};
 ghost use lib.ListN.{length};
+ghost use Rattle.stream.specs.Pack.{pack};
 ghost use Rattle.stream.specs.Unpack.{unpack};
 ghost use Rattle.bridge.specs.Bytes.{onAllBytes, StoresBytes};
+use packer::pack_bytes;
 use stream::OutputAnswer;
+use stream::longest_list;
 use stream::refused;
 use unpacker::unpack_bytes;
 use words::write_words;
+
+// The longest list that a log is packed to, in words.
+const LONGEST_LIST: usize = 8192;
 
 // The longest log that a list is unpacked to, in words: 16,384 port writes.
 const LONGEST_LOG: usize = 32768;
@@ -34,6 +40,23 @@ fn capacity_of(size: usize, most: usize) -> usize
 {
     let words = size / 4;
     if words < most { words } else { most }
+}
+
+// A log as bytes is packed to a list as bytes, little-endian words both.
+#[no_mangle]
+pub extern "C" fn nauvelppi_pack(log: &[u8], output: &mut [u8]) -> OutputAnswer
+    ensures { λ r. ⌜ StoresBytes (onAllBytes pack (length (now (output .entry))) (now (log .entry))) r
+        (now (output .entry)) (now (output .exit)) ⌝ }
+{
+    if !is_whole(output.len()) {
+        return refused(7, 0);
+    }
+    let capacity = capacity_of(output.len(), LONGEST_LIST);
+    let mut list = longest_list();
+    let answer = pack_bytes(log, &mut list[..capacity]);
+    let length = answer.length as usize;
+    write_words(&list[..length], output);
+    answer
 }
 
 // A list as bytes is unpacked to a log as bytes, little-endian words both.

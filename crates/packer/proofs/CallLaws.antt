@@ -1,4 +1,5 @@
 -- What `pack` gives in each case, for the function that computes it. Assumes nothing.
+use mathlib.Core.Bool.{or-true}
 use mathlib.Core.List.{List}
 use mathlib.Core.Path.{_≡_, sym, subst, refl, _∙_}
 use Prim.Native.Nat.{ℕ, _*_, _%_, _/_, _≤_, _<_}
@@ -11,7 +12,7 @@ use Rattle.stream.specs.Pending.{idle}
 use Rattle.stream.specs.Step.{portStep}
 use Rattle.stream.specs.Read.{Read, writes, logCommands}
 use Rattle.stream.specs.Output.{refusal, onRead, measured, Stores}
-use Rattle.stream.specs.Pack.{packedWords, orNone, packCommands, pack}
+use Rattle.stream.specs.Pack.{packedWords, orNone, packCommands, isOdd, pack}
 use Rattle.stream.proofs.StepLaws.{idle-sound, port-keeps}
 use Rattle.stream.proofs.ReadLaws.{stopped-number}
 use Rattle.stream.proofs.OutputLaws.{refused-read, ReadWhole, read-whole, stores-measured}
@@ -22,9 +23,9 @@ module _ (capacity : ℕ) (log : List ℕ) where
   unfolding pack
   log-odd h = rw (eq-eqb (length log % 2) 1 h)
 
-  pub log-long : (length log % 2 ≡ 1 → ⊥) → 8192 < length log → pack capacity log ≡ refusal 7 0
+  pub log-long : 8192 < length log → pack capacity log ≡ refusal 7 0
   unfolding pack
-  log-long n h = rw (ne-eqb (length log % 2) 1 n, lt-ltb 8192 (length log) h)
+  log-long h = rw (lt-ltb 8192 (length log) h, or-true (isOdd (length log)))
 
 -- number 7 does not fall
 pub record Allowed (log : List ℕ) : Type 0 where

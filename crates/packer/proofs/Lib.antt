@@ -3,3 +3,4 @@ pub mod CommandWalk
 pub mod GroupLaws
 pub mod PutLaws
 pub mod CallLaws
+pub mod Capacity

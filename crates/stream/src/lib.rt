@@ -43,7 +43,7 @@ pub fn writes_for(count: usize) -> usize
 }
 
 // Room for the longest list or log. A caller's proof has its length alone.
-fn longest_list() -> [u32; 8192]
+pub fn longest_list() -> [u32; 8192]
     ensures { λ r. ⌜ length r ≡ 8192 ⌝ }
 {
     [0; 8192]

@@ -26,8 +26,7 @@ returns-2 : tie.Need-returns-2
 returns-2 c =
     let a = c .before .before .before .before .before .args in
     stores-none 7 0 (c .refused2 .result) (a .output .now)
-    (log-long (length (a .output .now)) (a .log .now) (c .before .before .if1 .left) (c .before .if2 .taken))
-    (c .refused2 .ensures)
+    (log-long (length (a .output .now)) (a .log .now) (c .before .if2 .taken)) (c .refused2 .ensures)
 
 -- number 7 does not fall
 allowed : (c : tie.Else2) → Allowed (c .before .before .before .before .args .log .now)

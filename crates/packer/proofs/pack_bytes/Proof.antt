@@ -1,0 +1,77 @@
+-- `packer::pack_bytes` meets its contract. Assumes nothing.
+use mathlib.Core.Path.{sym, ap, subst, _∙_}
+use Prim.Native.Nat.{_<_}
+use native.Mathlib.Omega.{arith}
+use lib.ListN.{length}
+use borrow.Author.Needs.{needs}
+use Rattle.words.specs.Words.{wordsOf}
+use Rattle.words.proofs.Words.{length-wordsOf}
+use Rattle.stream.specs.Output.{Output, Stores}
+use Rattle.stream.specs.Pack.{pack}
+use Rattle.stream.proofs.OutputLaws.{stores-none, not-whole-words, whole-words}
+use Rattle.packer.proofs.CallLaws.{log-long}
+use Rattle.packer.proofs.pack_bytes.Statement.{statement}
+use Rattle.packer.proofs.pack_bytes.Tie as tie
+
+refused-requires : tie.Need-refused-requires
+refused-requires c κs = search needs
+
+returns : tie.Need-returns
+returns c =
+    let a = c .before .before .before .before .args in
+    stores-none 7 0 (c .refused .result) (a .output .now)
+    (not-whole-words (pack (length (a .output .now))) (a .input .now) (c .before .if1 .taken)) (c .refused .ensures)
+
+refused-requires-2 : tie.Need-refused-requires-2
+refused-requires-2 c κs = search needs
+
+returns-2 : tie.Need-returns-2
+returns-2 c =
+    let a = c .before .before .before .before .before .args in
+    let n = length (a .output .now) in
+    let e = whole-words (pack n) (a .input .now) (c .before .before .if1 .left) in
+    let words = wordsOf (a .input .now) in
+    let h : 8192 < length words = omega (arith, length-wordsOf (a .input .now), c .before .if2 .taken) in
+    stores-none 7 0 (c .refused2 .result) (a .output .now) (e ∙ log-long n words h) (c .refused2 .ensures)
+
+words-of-requires : tie.Need-words-of-requires
+words-of-requires c κs = search needs
+
+array-share-prefix-words : tie.Need-array-share-prefix-words
+array-share-prefix-words c = search needs
+
+slice-aggregate-pack : tie.Need-slice-aggregate-pack
+slice-aggregate-pack c =
+    let bytes = c .before .before .before .before .before .before .args .input .now in
+    rw (c .before .words-of .ensures) (omega (arith, length-wordsOf bytes))
+
+pack-requires : tie.Need-pack-requires
+pack-requires c κs = search needs
+
+same-length : tie.Need-same-length
+same-length c = search needs
+
+returns-3 : tie.Need-returns-3
+returns-3 c =
+    let made = c .before .before .before .before .before in
+    let a = made .before .before .before .before .before .args in
+    let n = length (a .output .now) in
+    let u = c .before .before .pack in
+    let e = whole-words (pack n) (a .input .now) (made .before .before .if1 .left) in
+    subst (λ (o : Output). Stores o (u .result) (a .output .now) (u .last .1 .0))
+    (ap (pack n) (made .words-of .ensures) ∙ sym e) (u .ensures)
+
+pub pack-bytes-spec : {M : Type 1} → statement M
+pack-bytes-spec =
+    tie.close
+    (tie.spec
+    refused-requires
+    returns
+    refused-requires-2
+    returns-2
+    words-of-requires
+    array-share-prefix-words
+    slice-aggregate-pack
+    pack-requires
+    same-length
+    returns-3)
