@@ -1,5 +1,5 @@
--- What a call of C's gives, whose input and output are bytes: document 01, "Packer and unpacker can be called from our
--- C editor on byte slices." Assumes nothing.
+-- What a call gives whose input and output are bytes: document 01, "Packer and unpacker can be called from our C editor
+-- on byte slices." Assumes nothing.
 use mathlib.Core.Bool.{cond}
 use mathlib.Core.List.{List}
 use mathlib.Core.Path.{_≡_}

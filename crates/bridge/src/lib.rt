@@ -1,5 +1,5 @@
-// The calls of C's: packer and unpacker on byte slices. Document 01, "Packer and unpacker can be called from our C
-// editor on byte slices."
+// The entries for C: packer and unpacker on byte slices. Document 01, "Packer and unpacker can be called from our C
+// editor on byte slices." `bindings/c/nauvelppi.h` declares them.
 ghost use mathlib.Core.Path.{_≡_};
 ghost use Prim.Native.Nat.{_/_, _%_, min};
 ghost use lib.Dec.{eqb};
@@ -14,7 +14,7 @@ use stream::refused;
 use unpacker::unpack_bytes;
 use words::write_words;
 
-// The longest list that a log is packed to, in words.
+// The longest list, in words: a log is packed to no more.
 const LONGEST_LIST: usize = 8192;
 
 // The longest log that a list is unpacked to, in words: 16,384 port writes.

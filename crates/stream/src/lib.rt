@@ -42,7 +42,7 @@ pub fn writes_for(count: usize) -> usize
     if count == 0 { 1 } else { count }
 }
 
-// Room for the longest list or log. A caller's proof has its length alone.
+// Room for the longest list or log. What it holds is free; a caller's proof has its length alone.
 pub fn longest_list() -> [u32; 8192]
     ensures { λ r. ⌜ length r ≡ 8192 ⌝ }
 {
