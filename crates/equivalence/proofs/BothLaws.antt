@@ -1,0 +1,72 @@
+-- Demand 3 of a function that runs both sides of a log. Assumes nothing.
+use mathlib.Core.List.{List}
+use mathlib.Core.Path.{_≡_, refl, sym, ap, _∙_}
+use Prim.Native.Nat.{ℕ}
+use lib.IntN.{ℤ}
+use lib.ListN.{length, take}
+use Rattle.stream.specs.declared.OutputAnswer.{OutputAnswer}
+use Rattle.stream.specs.Read.{writes}
+use Rattle.stream.specs.Output.{Stores}
+use Rattle.stream.specs.Pack.{pack}
+use Rattle.stream.specs.Demand3.{after}
+use Rattle.stream.proofs.OutputLaws.{stored-words}
+use Rattle.state.specs.declared.Core.{Core}
+use Rattle.state.specs.declared.Engine.{Engine}
+use Rattle.polygons.specs.Buffers.{Buffered}
+use Rattle.engine.specs.Call.{machineOf, wordReply, portReply}
+use Rattle.feeding.specs.Feed.{Fed, fed, feed, fedOf}
+use Rattle.feeding.proofs.FeedLaws.{feed-all}
+use Rattle.equivalence.specs.declared.BothEnds.{BothEnds}
+use Rattle.equivalence.specs.Demand3.{Start}
+use Rattle.equivalence.specs.Calls.{lent}
+use Rattle.equivalence.specs.Both.{Ran, BothAgree}
+use Rattle.equivalence.proofs.Agree.{engine-demand3}
+
+-- the two sides of an accepted log, run
+module _ {log : List ℕ} {r : BothEnds} {old output : List ℕ} {e : Engine} {vertices vertices2 vs ws : List ℤ}
+    {polygons polygons2 ps qs : List ℕ} (stores : Stores (pack (length old) log) (r .packed) old output)
+    (accepted : r .packed .number ≡ 0)
+    (writes-ran : fedOf (r .writes) vs ps ≡ feed portReply (machineOf e vertices polygons) (writes log))
+    (words-ran : fedOf (r .words) ws qs
+    ≡ feed wordReply (machineOf e vertices2 polygons2) (take (r .packed .length) output)) where
+  -- from equal buffers
+  agree : Start e vertices polygons → vertices ≡ vertices2 → polygons ≡ polygons2
+      → BothAgree log r (lent (r .writes .engine) vs ps) (lent (r .words .engine) ws qs)
+  agree s p q =
+      let m = machineOf e vertices polygons in
+      let o = pack (length old) log in
+      let n : r .packed .length ≡ length (o .words) = ap (λ (x : OutputAnswer). x .length) (stores .answer) in
+      let a : o .number ≡ 0 = sym (ap (λ (x : OutputAnswer). x .number) (stores .answer)) ∙ accepted in
+      let d = engine-demand3 (length old) log e vertices polygons a s in
+      let by-writes : fedOf (r .writes) vs ps ≡ fed (length (writes log)) 0 (after portReply m (writes log)) =
+      writes-ran ∙ feed-all portReply m (writes log) (d .writes-taken) in
+      let by-words : fedOf (r .words) ws qs ≡ fed (length (o .words)) 0 (after wordReply m (o .words)) =
+      words-ran
+      ∙ ap (feed wordReply (machineOf e vertices2 polygons2)) (stored-words stores)
+      ∙ rw (← p, ← q) (feed-all wordReply m (o .words) (d .words-taken)) in
+      record {
+        writes-taken = ap (λ (f : Fed (Buffered Core)). f .taken) by-writes;
+        writes-number = ap (λ (f : Fed (Buffered Core)). f .number) by-writes;
+        words-taken = ap (λ (f : Fed (Buffered Core)). f .taken) by-words ∙ sym n;
+        words-number = ap (λ (f : Fed (Buffered Core)). f .number) by-words;
+        sides-agree = rw (
+          n,
+          ap (λ (f : Fed (Buffered Core)). f .left) by-writes,
+          ap (λ (f : Fed (Buffered Core)). f .left) by-words,
+        ) (d .sides-agree);
+      }
+
+  -- what `run_both` promises
+  pub both-ran : Ran log r old output (lent e vertices polygons) (lent (r .writes .engine) vs ps)
+      (lent e vertices2 polygons2) (lent (r .words .engine) ws qs)
+      × (r .packed .number ≡ 0 → Start e vertices polygons → vertices ≡ vertices2 → polygons ≡ polygons2
+      → BothAgree log r (lent (r .writes .engine) vs ps) (lent (r .words .engine) ws qs))
+  both-ran = (
+    record {
+      stores = stores;
+      writes-ran = λ _. writes-ran;
+      words-ran = λ _. words-ran;
+      refused = λ d. absurd (d accepted);
+    },
+    λ z s p q. agree s p q,
+  )

@@ -1,0 +1,38 @@
+-- What a function promises that packs a log and runs both sides of it. Assumes nothing.
+use mathlib.Core.List.{List}
+use mathlib.Core.Path.{_≡_}
+use Prim.Native.Nat.{ℕ}
+use lib.IntN.{ℤ}
+use lib.ListN.{length, take}
+use Rattle.stream.specs.Read.{writes}
+use Rattle.stream.specs.Output.{Stores}
+use Rattle.stream.specs.Pack.{pack}
+use Rattle.state.specs.declared.Engine.{Engine}
+use Rattle.engine.specs.Call.{wordReply, portReply}
+use Rattle.feeding.specs.Feed.{fed, feed, fedOf}
+use Rattle.equivalence.specs.declared.BothEnds.{BothEnds}
+use Rattle.equivalence.specs.EqualEnds.{SidesAgree}
+use Rattle.equivalence.specs.Demand3.{Start}
+use Rattle.equivalence.specs.Calls.{Lent, machineAt}
+
+-- The two sides of a log, as far as they were run: a is where the port writes start and b what they leave, c where the
+-- packed words start and d what they leave; the output held `old` before, and `output` after. A refused log runs
+-- neither side.
+pub record Ran (log : List ℕ) (r : BothEnds) (old output : List ℕ) (a b c d : Lent) : Type 0 where
+  pub stores : Stores (pack (length old) log) (r .packed) old output
+  pub writes-ran : r .packed .number ≡ 0
+      → fedOf (r .writes) (b .vertices) (b .polygons) ≡ feed portReply (machineAt a) (writes log)
+  pub words-ran : r .packed .number ≡ 0
+      → fedOf (r .words) (d .vertices) (d .polygons)
+      ≡ feed wordReply (machineAt c) (take (r .packed .length) output)
+  pub refused : (r .packed .number ≡ 0 → ⊥)
+      → (fedOf (r .writes) (b .vertices) (b .polygons) ≡ fed 0 0 (machineAt a))
+      × (fedOf (r .words) (d .vertices) (d .polygons) ≡ fed 0 0 (machineAt c))
+
+-- Demand 3, of what it answers: every write and every word was taken, and the two ends agree
+pub record BothAgree (log : List ℕ) (r : BothEnds) (b d : Lent) : Type 0 where
+  pub writes-taken : r .writes .taken ≡ length (writes log)
+  pub writes-number : r .writes .number ≡ 0
+  pub words-taken : r .words .taken ≡ r .packed .length
+  pub words-number : r .words .number ≡ 0
+  pub sides-agree : SidesAgree log (r .packed .length) (machineAt b) (machineAt d)

@@ -1,0 +1,69 @@
+-- Demand 3 of calls that were really made: whatever functions gave the answers, of each call only what the contracts of
+-- `pack`, `port_write` and `word` promise is used. Assumes nothing.
+use mathlib.Core.List.{List, [], _∷_}
+use mathlib.Core.Path.{_≡_}
+use Prim.Native.Nat.{ℕ}
+use lib.IntN.{ℤ}
+use lib.ListN.{length, take}
+use Rattle.stream.specs.declared.OutputAnswer.{OutputAnswer}
+use Rattle.stream.specs.Read.{writes}
+use Rattle.stream.specs.Output.{Stores}
+use Rattle.stream.specs.Pack.{pack}
+use Rattle.stream.specs.Call.{Machine, Reply}
+use Rattle.state.specs.declared.Core.{Core}
+use Rattle.state.specs.declared.Engine.{Engine}
+use Rattle.state.specs.declared.Answer.{Answer}
+use Rattle.polygons.specs.Buffers.{Buffered}
+use Rattle.engine.specs.Call.{machineOf, replyOf, wordReply, portReply}
+use Rattle.equivalence.specs.EqualEnds.{SidesAgree}
+use Rattle.equivalence.specs.Demand3.{Start}
+
+-- an engine's record and the caller's two buffers, as the code has them
+pub record Lent : Type 0 where
+  pub engine : Engine
+  pub vertices : List ℤ
+  pub polygons : List ℕ
+
+abbrev pub lent : Engine → List ℤ → List ℕ → Lent
+lent e vertices polygons = record { engine = e; vertices = vertices; polygons = polygons }
+
+-- what they stand for
+abbrev pub machineAt : Lent → Machine (Buffered Core)
+machineAt s = machineOf (s .engine) (s .vertices) (s .polygons)
+
+-- Calls one after another on the items l, each with the record and the buffers that the one before left: the numbers
+-- that they answer, and what the last leaves. r, vertices and polygons are a call's answer and what it leaves in the
+-- buffers; the equation is its contract.
+pub data Calls {A : Type 0} (call : Machine (Buffered Core) → A → Reply (Buffered Core))
+    : Lent → List A → List ℕ → Lent → Type 0 where
+  none : {s : Lent} → Calls call s [] [] s
+  one : {s t : Lent} {a : A} {l : List A} {numbers : List ℕ} (r : Answer) (vertices : List ℤ) (polygons : List ℕ)
+      → replyOf r vertices polygons ≡ call (machineAt s) a → Calls call (lent (r .engine) vertices polygons) l numbers t
+      → Calls call s (a ∷ l) (r .number ∷ numbers) t
+
+-- "every call answers number 0"
+abbrev pub AllZero : List ℕ → Type 0
+AllZero [] = Unit {0}
+AllZero (n ∷ numbers) = (n ≡ 0) × AllZero numbers
+
+-- Both sides of a log. `packed` is what a packer answered, whose output held `old` before and `output` after; s is where
+-- the port writes start and t where the packed words do.
+pub record BothSides (log : List ℕ) (packed : OutputAnswer) (old output : List ℕ) (s t : Lent) : Type 0 where
+  pub stores : Stores (pack (length old) log) packed old output
+  pub accepted : packed .number ≡ 0
+  pub start : Start (s .engine) (s .vertices) (s .polygons)
+  pub equal-starts : machineAt s ≡ machineAt t
+  pub by-writes : Lent
+  pub write-numbers : List ℕ
+  pub write-calls : Calls portReply s (writes log) write-numbers by-writes
+  pub by-words : Lent
+  pub word-numbers : List ℕ
+  -- "the packed words are then its output up to the length"
+  pub word-calls : Calls wordReply t (take (packed .length) output) word-numbers by-words
+
+-- and what holds of them
+pub record CallsAgree {log : List ℕ} {packed : OutputAnswer} {old output : List ℕ} {s t : Lent}
+    (b : BothSides log packed old output s t) : Type 0 where
+  pub writes-taken : AllZero (b .write-numbers)
+  pub words-taken : AllZero (b .word-numbers)
+  pub sides-agree : SidesAgree log (packed .length) (machineAt (b .by-writes)) (machineAt (b .by-words))

@@ -1,0 +1,4 @@
+pub mod EqualEnds
+pub mod Demand3
+pub mod Calls
+pub mod Both
