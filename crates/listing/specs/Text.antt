@@ -32,13 +32,32 @@ hex8 n = digits 16 8 n
 unfoldable pub writeLine : Write → List ℕ
 writeLine w = hex8 (w .address) ++ ascii " " ++ hex8 (w .value) ++ ascii "\n"
 
+-- "00001510": a word, and the line's end
+unfoldable pub wordLine : ℕ → List ℕ
+wordLine w = hex8 w ++ ascii "\n"
+
+-- the line of each of some elements
+abbrev pub linesOf : {A : Type 0} → (A → List ℕ) → List A → List ℕ
+linesOf line [] = []
+linesOf line (x ∷ xs) = line x ++ linesOf line xs
+
 abbrev pub writeLines : List Write → List ℕ
-writeLines [] = []
-writeLines (w ∷ ws) = writeLine w ++ writeLines ws
+writeLines = linesOf writeLine
+
+abbrev pub wordLines : List ℕ → List ℕ
+wordLines = linesOf wordLine
+
+-- a name with the space behind it, a number in decimal, and the line's end
+abbrev pub numberLine : List ℕ → ℕ → List ℕ
+numberLine name n = name ++ decimal n ++ ascii "\n"
 
 -- "ports 2", and a line for each port write
 unfoldable pub portsText : List Write → List ℕ
-portsText ws = ascii "ports " ++ decimal (length ws) ++ ascii "\n" ++ writeLines ws
+portsText ws = numberLine (ascii "ports ") (length ws) ++ writeLines ws
+
+-- what the program `pack` prints for a log that it accepts: "words 3", and a line for each word
+unfoldable pub wordsText : List ℕ → List ℕ
+wordsText ws = numberLine (ascii "words ") (length ws) ++ wordLines ws
 
 -- document 01: "A refusal prints one line instead, number and place in decimal, as `refused 3 0`."
 unfoldable pub refusedLine : ℕ → ℕ → List ℕ

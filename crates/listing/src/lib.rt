@@ -3,7 +3,8 @@ ghost use Prim.Native.Nat.{_+_, _*_, _/_, _≤_};
 ghost use lib.ListN.{length};
 ghost use Rattle.stream.specs.Command.{write};
 ghost use Rattle.stream.specs.Read.{writes};
-ghost use Rattle.listing.specs.Text.{decimal, hex8, writeLine, writeLines, portsText, refusedLine};
+ghost use Rattle.listing.specs.Text.{decimal, hex8, numberLine, writeLine, writeLines, wordLine, wordLines};
+ghost use Rattle.listing.specs.Text.{portsText, wordsText, refusedLine};
 ghost use Rattle.listing.specs.Buffer.{Puts};
 
 // Every function here stores its text in the buffer from `at` on and answers where the next goes. The public ones are
@@ -42,6 +43,16 @@ fn put_hex(text: &mut [u8], at: usize, n: u32) -> usize
     put_bytes(text, at, &digits[..count])
 }
 
+// A line of a name, with the space behind it, and a number.
+fn put_number_line(text: &mut [u8], at: usize, name: &[u8], n: u32) -> usize
+    requires { ⌜ at + length (now name) + 11 ≤ length (now text) ⌝ }
+    ensures { λ r. ⌜ Puts (numberLine (now (name .entry)) n) at r (now (text .entry)) (now (text .exit)) ⌝ }
+{
+    let number = put_bytes(text, at, name);
+    let end = put_decimal(text, number, n);
+    put_bytes(text, end, b"\n")
+}
+
 // A line for a port write.
 fn put_write(text: &mut [u8], at: usize, address: u32, value: u32) -> usize
     requires { ⌜ at + 18 ≤ length (now text) ⌝ }
@@ -74,10 +85,41 @@ pub fn put_ports(text: &mut [u8], at: usize, log: &[u32]) -> usize
     requires { ⌜ at + 17 + 18 * (length (now log) / 2) ≤ length (now text) ⌝ }
     ensures { λ r. ⌜ Puts (portsText (writes (now (log .entry)))) at r (now (text .entry)) (now (text .exit)) ⌝ }
 {
-    let number = put_bytes(text, at, b"ports ");
-    let end = put_decimal(text, number, (log.len() / 2) as u32);
-    let first = put_bytes(text, end, b"\n");
+    let first = put_number_line(text, at, b"ports ", (log.len() / 2) as u32);
     put_writes(text, first, log)
+}
+
+// A line for a word.
+fn put_word_line(text: &mut [u8], at: usize, word: u32) -> usize
+    requires { ⌜ at + 9 ≤ length (now text) ⌝ }
+    ensures { λ r. ⌜ Puts (wordLine word) at r (now (text .entry)) (now (text .exit)) ⌝ }
+{
+    let line_end = put_hex(text, at, word);
+    put_bytes(text, line_end, b"\n")
+}
+
+// A line for each word.
+fn put_word_lines(text: &mut [u8], at: usize, words: &[u32]) -> usize
+    requires { ⌜ at + 9 * length (now words) ≤ length (now text) ⌝ }
+    ensures { λ r. ⌜ Puts (wordLines (now (words .entry))) at r (now (text .entry)) (now (text .exit)) ⌝ }
+{
+    let mut next = at;
+    let mut i = 0;
+    while i < words.len() {
+        next = put_word_line(text, next, words[i]);
+        i += 1;
+    }
+    next
+}
+
+// "words" and how many, then the words.
+pub fn put_words(text: &mut [u8], at: usize, words: &[u32]) -> usize
+    requires { ⌜ length (now words) ≤ 8192 ⌝ }
+    requires { ⌜ at + 17 + 9 * length (now words) ≤ length (now text) ⌝ }
+    ensures { λ r. ⌜ Puts (wordsText (now (words .entry))) at r (now (text .entry)) (now (text .exit)) ⌝ }
+{
+    let first = put_number_line(text, at, b"words ", words.len() as u32);
+    put_word_lines(text, first, words)
 }
 
 // "refused", the number and the place.

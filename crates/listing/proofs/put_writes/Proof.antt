@@ -9,7 +9,7 @@ use Rattle.stream.specs.Read.{writes}
 use Rattle.stream.proofs.UnpackLaws.{length-writes}
 use Rattle.listing.specs.Text.{writeLines}
 use Rattle.listing.specs.Buffer.{Puts}
-use Rattle.listing.proofs.LineLaws.{puts-line, length-writeLine}
+use Rattle.listing.proofs.LineLaws.{puts-write, length-writeLine}
 use Rattle.listing.proofs.put_writes.Statement.{statement}
 use Rattle.listing.proofs.put_writes.Tie as tie
 
@@ -63,7 +63,7 @@ loop-again c =
       search needs,
       omega (arith, rw length-writeLine at (put .ensures .next-is)),
       search needs,
-      puts-line (start .log .now) (at .i) (start .at) (turn .loop-test .taken) (at .inv .3) (put .ensures),
+      puts-write (start .log .now) (at .i) (turn .loop-test .taken) (at .inv .3) (put .ensures),
     )
 
 same-length : tie.Need-same-length Inv-loop μ-loop
