@@ -3,7 +3,7 @@ use mathlib.Core.List.{List}
 use mathlib.Core.Path.{_≡_, sym, ap, _∙_}
 use Prim.Native.Nat.{ℕ, _≤_}
 use native.Mathlib.Omega.{arith}
-use lib.ListN.{length, take}
+use lib.ListN.{length, take, drop, length-append, length-drop}
 use lib.Seq.{length-take-le}
 use borrow.Author.Tests.{eq-eqb, ne-eqb}
 use Rattle.io.specs.Counts.{Counts}
@@ -12,15 +12,13 @@ use Rattle.words.proofs.Over.{sets-over, take-over}
 use Rattle.stream.specs.declared.OutputAnswer.{OutputAnswer}
 use Rattle.stream.specs.Read.{writes}
 use Rattle.stream.specs.Output.{Output, onBytes, Stores}
-use Rattle.stream.specs.Unpack.{unpack}
 use Rattle.stream.proofs.UnpackLaws.{length-writes}
-use Rattle.stream.proofs.OutputLaws.{on-bytes-fits}
-use Rattle.unpacker.proofs.Capacity.{unpack-fits}
-use Rattle.listing.specs.Text.{portsText, refusedLine}
+use Rattle.listing.specs.Text.{refusedLine}
 use Rattle.listing.specs.Buffer.{Puts}
 use Rattle.listing.proofs.PutLaws.{puts-kept}
 use Rattle.listing.proofs.LineLaws.{length-portsText}
-use Rattle.reports.specs.Unpack.{logReport, unpackReport}
+use Rattle.reports.specs.Report.{reportBy}
+use Rattle.reports.specs.Unpack.{logText}
 
 -- the report, put at the start of a buffer that is long enough: its length, and what the buffer holds
 pub reported : {new report : List ℕ} {next : ℕ} {old text : List ℕ} → new ≡ report → Puts new 0 next old text
@@ -32,31 +30,50 @@ reported {new} {report} {next} {old} {text} e p h =
     (n, (t, (m, sym (length-take-le next text m))))
 
 -- a log of at most 16,384 port writes fits the report's buffer
-pub report-fits : (log : List ℕ) → length log ≤ 32768 → length (portsText (writes log)) ≤ 294929
-report-fits log h = omega (arith, length-portsText (writes log), length-writes log)
+pub log-text-fits : (log : List ℕ) → length log ≤ 32768 → length (logText log) ≤ 294929
+log-text-fits log h = omega (arith, length-portsText (writes log), length-writes log)
 
-module _ (input : List ℕ) (r : OutputAnswer) (old new : List ℕ) (long : length old ≡ 32768)
-    (s : Stores (onBytes (unpack (length old)) input) r old new) where
-  stores : Stores (onBytes (unpack 32768) input) r old new
-  stores = rw long at s
+-- What a call with answer r left in its output buffer, `stored`, of that capacity: the report of a refusal and of the
+-- words, the text of which is `text`; the words are a part of the buffer
+pub record Answered (text : List ℕ → List ℕ) (report : List ℕ) (capacity : ℕ) (r : OutputAnswer) (stored : List ℕ)
+    : Type 0 where
+  pub refused : (r .number ≡ 0 → ⊥) → refusedLine (r .number) (r .place) ≡ report
+  pub accepted : r .number ≡ 0 → text (take (r .length) stored) ≡ report
+  pub fits : r .length ≤ capacity
+  pub kept : length stored ≡ capacity
+  pub lent : length (take (r .length) stored) ≡ r .length
 
-  pub refused-report : (r .number ≡ 0 → ⊥) → refusedLine (r .number) (r .place) ≡ unpackReport input
-  unfolding unpackReport logReport
-  refused-report d =
-      let o : Output = onBytes (unpack 32768) input in
-      let n : r .number ≡ o .number = ap (λ (x : OutputAnswer). x .number) (stores .answer) in
-      let p : r .place ≡ o .place = ap (λ (x : OutputAnswer). x .place) (stores .answer) in
-      rw (ne-eqb (o .number) 0 (λ e. d (n ∙ e)), n, p)
+-- what a call stores in a buffer that keeps its length fits it
+stored-fits : {o : Output} {r : OutputAnswer} {old new : List ℕ} → Stores o r old new → length new ≡ length old
+    → r .length ≤ length old
+unfolding over
+stored-fits {o} {r} {old} s k =
+    let n : r .length ≡ length (o .words) = ap (λ (x : OutputAnswer). x .length) (s .answer) in
+    let rest : List ℕ = drop (length (o .words)) old in
+    omega (
+      arith,
+      n,
+      ap length (s .buffer),
+      length-append (o .words) rest,
+      length-drop (length (o .words)) old,
+      k,
+    )
 
-  length-is : r .length ≡ length (onBytes (unpack 32768) input .words)
-  length-is = ap (λ (x : OutputAnswer). x .length) (stores .answer)
-
-  pub log-fits : r .length ≤ 32768
-  log-fits = rw length-is (on-bytes-fits (unpack 32768) 32768 (unpack-fits 0 32768) input)
-
-  pub log-report : r .number ≡ 0 → portsText (writes (take (r .length) new)) ≡ unpackReport input
-  unfolding unpackReport logReport
-  log-report z =
-      let o : Output = onBytes (unpack 32768) input in
-      let n : o .number ≡ 0 = sym (ap (λ (x : OutputAnswer). x .number) (stores .answer)) ∙ z in
-      rw (eq-eqb (o .number) 0 n, stores .buffer, length-is, take-over (o .words) old)
+-- a call f on bytes
+pub answered : (f : ℕ → List ℕ → Output) (capacity : ℕ) (text : List ℕ → List ℕ) (input : List ℕ) {r : OutputAnswer}
+    {old new : List ℕ} → length old ≡ capacity → Stores (onBytes (f (length old)) input) r old new
+    → length new ≡ length old → Answered text (reportBy text (onBytes (f capacity) input)) capacity r new
+answered f capacity text input {r} {old} {new} long s k =
+    let o : Output = onBytes (f capacity) input in
+    let t : Stores o r old new = rw long at s in
+    let n : r .number ≡ o .number = ap (λ (x : OutputAnswer). x .number) (t .answer) in
+    let p : r .place ≡ o .place = ap (λ (x : OutputAnswer). x .place) (t .answer) in
+    let l : r .length ≡ length (o .words) = ap (λ (x : OutputAnswer). x .length) (t .answer) in
+    let m : r .length ≤ length old = stored-fits t k in
+    record {
+      refused = λ d. rw (ne-eqb (o .number) 0 (λ e. d (n ∙ e)), n, p);
+      accepted = λ z. rw (eq-eqb (o .number) 0 (sym n ∙ z), t .buffer, l, take-over (o .words) old);
+      fits = omega (arith, m, long);
+      kept = k ∙ long;
+      lent = length-take-le (r .length) new (omega (arith, m, k));
+    }

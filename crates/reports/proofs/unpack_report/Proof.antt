@@ -1,12 +1,12 @@
 -- `reports::unpack_report` meets its contract. Assumes nothing.
-use mathlib.Core.Path.{_≡_, sym, _∙_}
-use Prim.Native.Nat.{_≤_}
-use lib.ListN.{length, take}
-use lib.Seq.{length-take-le}
-use Rattle.listing.proofs.LineLaws.{length-refusedLine}
-use Rattle.reports.proofs.ReportLaws.{reported, report-fits, refused-report, log-fits, log-report}
+use mathlib.Core.Path.{sym}
 use native.Mathlib.Omega.{arith}
+use lib.ListN.{take}
 use borrow.Author.Needs.{needs}
+use Rattle.stream.specs.Unpack.{unpack}
+use Rattle.listing.proofs.LineLaws.{length-refusedLine}
+use Rattle.reports.specs.Unpack.{logText, logReport, unpackReport}
+use Rattle.reports.proofs.ReportLaws.{reported, log-text-fits, Answered, answered}
 use Rattle.reports.proofs.unpack_report.Statement.{statement}
 use Rattle.reports.proofs.unpack_report.Tie as tie
 
@@ -22,57 +22,45 @@ unpack-bytes-requires c κs = search needs
 put-refused-requires : tie.Need-put-refused-requires
 put-refused-requires c κs = search needs
 
+-- what the unpacker left
+unpacked : (c : tie.After-unpack-bytes)
+    → Answered logText (unpackReport (c .before .before .before .before .args .input .now)) 32768
+    (c .unpack-bytes .result) (c .unpack-bytes .last .1 .0)
+unfolding unpackReport logReport
+unpacked c =
+    let made = c .before .before in
+    answered unpack 32768 logText (made .before .before .args .input .now) (made .longest-log .ensures)
+    (c .unpack-bytes .ensures) (c .unpack-bytes .kept .1 .0)
+
 returns : tie.Need-returns
 returns c =
     let u = c .before .before .before .before .before in
-    let p = c .put-refused in
-    let made = u .before .before in
-    let e = refused-report (made .before .before .args .input .now) (u .unpack-bytes .result) _ _
-    (made .longest-log .ensures) (u .unpack-bytes .ensures) (c .before .before .if1 .taken) in
     let r = u .unpack-bytes .result in
-    reported e (p .ensures) (omega (arith, length-refusedLine (r .number) (r .place)))
+    reported (unpacked u .refused (c .before .before .if1 .taken)) (c .put-refused .ensures)
+    (omega (arith, length-refusedLine (r .number) (r .place)))
 
 cast-length : tie.Need-cast-length
 cast-length c = search needs
 
--- the log fits its buffer, which keeps its length
-fits : (c : tie.After-unpack-bytes) → c .unpack-bytes .result .length ≤ 32768
-fits c =
-    let made = c .before .before in
-    log-fits (made .before .before .args .input .now) (c .unpack-bytes .result) _ _ (made .longest-log .ensures)
-    (c .unpack-bytes .ensures)
-
-kept : (c : tie.After-unpack-bytes) → length (c .unpack-bytes .last .1 .0) ≡ 32768
-kept c = c .unpack-bytes .kept .1 .0 ∙ c .before .before .longest-log .ensures
-
--- the part of the buffer that is lent is as long as the log
-lent : (c : tie.After-unpack-bytes)
-    → length (take (c .unpack-bytes .result .length) (c .unpack-bytes .last .1 .0)) ≡ c .unpack-bytes .result .length
-lent c = length-take-le (c .unpack-bytes .result .length) (c .unpack-bytes .last .1 .0) (omega (arith, fits c, kept c))
-
 array-share-prefix-log : tie.Need-array-share-prefix-log
 array-share-prefix-log c =
-    let u = c .before .before .before .before .before in
-    omega (arith, fits u, kept u)
+    let u = unpacked (c .before .before .before .before .before) in
+    omega (arith, u .fits, u .kept)
 
 slice-aggregate-put-ports : tie.Need-slice-aggregate-put-ports
-slice-aggregate-put-ports c = sym (lent (c .before .before .before .before .before .before))
+slice-aggregate-put-ports c = sym (unpacked (c .before .before .before .before .before .before) .lent)
 
 put-ports-requires : tie.Need-put-ports-requires
 put-ports-requires c κs =
-    let u = c .before .before .before .before .before .before in
-    let n = lent u in
-    (omega (arith, n, fits u), omega (arith, n, fits u))
+    let u = unpacked (c .before .before .before .before .before .before) in
+    (omega (arith, u .lent, u .fits), omega (arith, u .lent, u .fits))
 
 returns-2 : tie.Need-returns-2
 returns-2 c =
     let u = c .before .before .before .before .before .before .before in
-    let p = c .put-ports in
-    let made = u .before .before in
-    let e = log-report (made .before .before .args .input .now) (u .unpack-bytes .result) _ _
-    (made .longest-log .ensures) (u .unpack-bytes .ensures) (c .before .before .before .before .if1 .left) in
     let log = take (u .unpack-bytes .result .length) (u .unpack-bytes .last .1 .0) in
-    reported e (p .ensures) (omega (arith, report-fits log (omega (arith, lent u, fits u))))
+    reported (unpacked u .accepted (c .before .before .before .before .if1 .left)) (c .put-ports .ensures)
+    (omega (arith, log-text-fits log (omega (arith, unpacked u .lent, unpacked u .fits))))
 
 pub unpack-report-spec : {M : Type 1} → statement M
 unpack-report-spec =
