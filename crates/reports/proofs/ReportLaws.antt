@@ -13,10 +13,10 @@ use Rattle.stream.specs.declared.OutputAnswer.{OutputAnswer}
 use Rattle.stream.specs.Read.{writes}
 use Rattle.stream.specs.Output.{Output, onBytes, Stores}
 use Rattle.stream.proofs.UnpackLaws.{length-writes}
-use Rattle.listing.specs.Text.{refusedLine}
+use Rattle.listing.specs.Text.{wordsText, refusedLine}
 use Rattle.listing.specs.Buffer.{Puts}
 use Rattle.listing.proofs.PutLaws.{puts-kept}
-use Rattle.listing.proofs.LineLaws.{length-portsText}
+use Rattle.listing.proofs.LineLaws.{length-portsText, length-wordsText}
 use Rattle.reports.specs.Report.{reportBy}
 use Rattle.reports.specs.Unpack.{logText}
 
@@ -32,6 +32,10 @@ reported {new} {report} {next} {old} {text} e p h =
 -- a log of at most 16,384 port writes fits the report's buffer
 pub log-text-fits : (log : List ℕ) → length log ≤ 32768 → length (logText log) ≤ 294929
 log-text-fits log h = omega (arith, length-portsText (writes log), length-writes log)
+
+-- a packed list fits the report's buffer
+pub words-text-fits : (words : List ℕ) → length words ≤ 8192 → length (wordsText words) ≤ 73745
+words-text-fits words h = omega (arith, length-wordsText words)
 
 -- What a call with answer r left in its output buffer, `stored`, of that capacity: the report of a refusal and of the
 -- words, the text of which is `text`; the words are a part of the buffer
