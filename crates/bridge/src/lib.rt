@@ -10,6 +10,7 @@ ghost use Rattle.bridge.specs.Bytes.{onAllBytes, StoresBytes};
 use packer::pack_bytes;
 use stream::OutputAnswer;
 use stream::longest_list;
+use stream::longest_log;
 use stream::refused;
 use unpacker::unpack_bytes;
 use words::write_words;
@@ -19,13 +20,6 @@ const LONGEST_LIST: usize = 8192;
 
 // The longest log that a list is unpacked to, in words: 16,384 port writes.
 const LONGEST_LOG: usize = 32768;
-
-// Room for the longest log. A caller's proof has its length alone.
-fn longest_log() -> [u32; 32768]
-    ensures { λ r. ⌜ length r ≡ 32768 ⌝ }
-{
-    [0; 32768]
-}
 
 // Whether so many bytes are whole words.
 fn is_whole(size: usize) -> bool

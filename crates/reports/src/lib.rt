@@ -9,14 +9,9 @@ use listing::put_ports;
 use listing::put_refused;
 use listing::put_words;
 use packer::pack_bytes;
+use stream::longest_list;
+use stream::longest_log;
 use unpacker::unpack_bytes;
-
-// Room for 16,384 port writes. A caller's proof has its length alone.
-fn longest_log() -> [u32; 32768]
-    ensures { λ r. ⌜ length r ≡ 32768 ⌝ }
-{
-    [0; 32768]
-}
 
 // Room for the longest report of a log: the first line, of at most 17 bytes, and 16,384 lines of 18. What it holds is
 // free.
@@ -39,13 +34,6 @@ pub fn unpack_report(input: &[u8], text: &mut [u8; 294929]) -> usize
     }
     let length = answer.length as usize;
     put_ports(text, 0, &log[..length])
-}
-
-// Room for a packed list. A caller's proof has its length alone.
-fn longest_list() -> [u32; 8192]
-    ensures { λ r. ⌜ length r ≡ 8192 ⌝ }
-{
-    [0; 8192]
 }
 
 // Room for the longest report of a packed list: the first line, of at most 17 bytes, and 8,192 lines of 9. What it
