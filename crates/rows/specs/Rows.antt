@@ -14,9 +14,10 @@ use Rattle.matrix.specs.Matrix.{entry, rowBy, mul, unit, scaleMatrix, at, one}
 use Rattle.stream.specs.Pending.{idle, dummyDue, queued, commandsOf, soundPending}
 use Rattle.stream.specs.Command.{takesNone, command, write}
 use Rattle.stream.specs.Step.{commandWord, parameterWord, wordStep, heldWith, portParameter, portStep}
-use Rattle.stream.specs.Read.{listCommands}
+use Rattle.stream.specs.Read.{logCommands, listCommands}
 use Rattle.stream.specs.Output.{refusal, acceptance, onBytes}
-use Rattle.stream.specs.Unpack.{commandWrites, commandsLog, unpackFrom, unpack}
+use Rattle.stream.specs.Pack.{groupWords, packedWords, packedLength, packCommands, pack}
+use Rattle.stream.specs.Unpack.{writesTo, commandWrites, logOf, commandsLog, unpackFrom, unpack}
 use Rattle.stream.specs.Call.{Machine, Reply, machine, reply, run, callBy}
 use Rattle.stream.specs.Demand3.{after}
 use Rattle.state.specs.declared.OpenList.the-variants.{TriangleStrip}
@@ -44,8 +45,9 @@ use Rattle.geometry.specs.Command.{runGeometry}
 use Rattle.execute.specs.Operation.{carried, registerCommandOf, operationOf}
 use Rattle.execute.specs.Execute.{runRegisters, runOperation, execute}
 use Rattle.engine.specs.Call.{exec, wordReply, portReply}
-use Rattle.listing.specs.Text.{ascii, decimal, hex8, writeLine, portsText, refusedLine}
+use Rattle.listing.specs.Text.{ascii, decimal, hex8, writeLine, portsText, wordLine, wordsText, refusedLine}
 use Rattle.reports.specs.Unpack.{logReport, unpackReport}
+use Rattle.reports.specs.Pack.{wordsReport, packReport}
 
 pub record WorkedRow : Type 1 where
   pub Kind : Type 0
@@ -314,8 +316,46 @@ unpackRows =
     ∷ row (unpackFrom 4 0 (0x0011_0015 ∷ 0x10 ∷ 2 ∷ [])) (acceptance [])
     ∷ []
 
+-- ---- the packer
+
+abbrev pub packRows : List WorkedRow
+packRows =
+    -- 10: "log (04000440h, 2), (04000454h, 7) packs to 00001510h, 2, 0", and as the program prints it
+    row (pack 8192 (0x0400_0440 ∷ 2 ∷ 0x0400_0454 ∷ 7 ∷ [])) (acceptance (0x1510 ∷ 2 ∷ 0 ∷ []))
+    ∷ row (packReport (bytesOf (0x0400_0440 ∷ 2 ∷ 0x0400_0454 ∷ 7 ∷ [])))
+    (ascii "words 3\n00001510\n00000002\n00000000\n")
+    -- 12: "Empty log packs to no words."
+    ∷ row (pack 0 []) (acceptance [])
+    -- of the length, counted from row 10's log: a parameter, a command word, a dummy
+    ∷ row (packedLength (write 0x0400_0440 2 ∷ write 0x0400_0454 7 ∷ [])) 3
+    -- of "four by four": five commands; a dummy where the fourth takes none
+    ∷ row (pack 9 (logOf (writesTo 0x0400_0440 (0 ∷ 1 ∷ 2 ∷ 3 ∷ 0 ∷ []))))
+    (acceptance (0x1010_1010 ∷ 0 ∷ 1 ∷ 2 ∷ 3 ∷ 0x10 ∷ 0 ∷ []))
+    ∷ row (pack 9 (logOf (writesTo 0x0400_0454 (9 ∷ 9 ∷ 9 ∷ 9 ∷ 9 ∷ []))))
+    (acceptance (0x1515_1515 ∷ 0 ∷ 0x15 ∷ 0 ∷ []))
+    -- of "first bad pair (5 before 6), 8", with their places: no port, and another port, inside 23h; an unfinished one
+    ∷ row (pack 9 (0x0400_0440 ∷ 2 ∷ 0x0400_048c ∷ 1 ∷ 0x0400_048e ∷ 1 ∷ [])) (refusal 5 2)
+    ∷ row (pack 9 (0x0400_0440 ∷ 2 ∷ 0x0400_048c ∷ 1 ∷ 0x0400_0440 ∷ 1 ∷ 0 ∷ 0 ∷ [])) (refusal 6 2)
+    ∷ row (pack 9 (0x0400_0440 ∷ 2 ∷ 0x0400_048c ∷ 1 ∷ [])) (refusal 8 1)
+    -- of 7, which comes before them, and of 10, which comes after, with an output one shorter than needed
+    ∷ row (pack 9 (0 ∷ [])) (refusal 7 0)
+    ∷ row (pack 2 (0x0400_0440 ∷ 2 ∷ 0x0400_0454 ∷ 7 ∷ [])) (refusal 10 0)
+    ∷ row (pack 0 (0x0400_048c ∷ 1 ∷ [])) (refusal 8 0)
+    -- of demand 2: "Unpacking a packed log gives back the log", 0 for the port without parameters
+    ∷ row (unpack 4 (pack 3 (0x0400_0440 ∷ 2 ∷ 0x0400_0454 ∷ 7 ∷ []) .words))
+    (acceptance (0x0400_0440 ∷ 2 ∷ 0x0400_0454 ∷ 0 ∷ []))
+    ∷ []
+
+abbrev tables : List (List WorkedRow)
+tables =
+    commandTableRows ∷ callRows ∷ matrixRows ∷ stackRows ∷ geometryRows ∷ soundRows ∷ unpackRows ∷ packRows ∷ []
+
+abbrev concat : List (List WorkedRow) → List WorkedRow
+concat [] = []
+concat (t ∷ ts) = t ++ concat ts
+
 abbrev pub workedRows : List WorkedRow
-workedRows = commandTableRows ++ callRows ++ matrixRows ++ stackRows ++ geometryRows ++ soundRows ++ unpackRows
+workedRows = concat tables
 
 -- ---- its claim
 
@@ -427,18 +467,27 @@ unpacks = (
   ),
 )
 
+packs : AllHold packRows
+unfolding commandRows lookup known count port counted commandAt commandBytes hole commandsOf takesNone commandWord
+    parameterWord wordStep heldWith portParameter portStep logCommands listCommands groupWords packedWords packedLength
+    packCommands pack commandWrites commandsLog unpackFrom wordsOf bytesOf onBytes decimal hex8 wordLine wordsText
+    refusedLine wordsReport packReport
+packs = (refl, (refl, (refl, (refl, (refl, (refl, (refl, (refl, (refl, (refl, (refl, (refl, (refl, tt)))))))))))))
+
 join : (xs ys : List WorkedRow) → AllHold xs → AllHold ys → AllHold (xs ++ ys)
 join [] ys a b = b
 join (x ∷ xs) ys a b = (a .0, join xs ys (a .1) b)
 
+-- tables, and the rows of all of them
+abbrev AllTables : List (List WorkedRow) → Type 0
+AllTables [] = Unit {0}
+AllTables (t ∷ ts) = AllHold t × AllTables ts
+
+all-joined : (ts : List (List WorkedRow)) → AllTables ts → AllHold (concat ts)
+all-joined [] h = tt
+all-joined (t ∷ ts) h = join t (concat ts) (h .0) (all-joined ts (h .1))
+
 pub worked : AllHold workedRows
 worked =
-    join (commandTableRows ++ callRows ++ matrixRows ++ stackRows ++ geometryRows ++ soundRows) unpackRows
-    (join (commandTableRows ++ callRows ++ matrixRows ++ stackRows ++ geometryRows) soundRows
-    (join (commandTableRows ++ callRows ++ matrixRows ++ stackRows) geometryRows
-    (join (commandTableRows ++ callRows ++ matrixRows) stackRows
-    (join (commandTableRows ++ callRows) matrixRows (join commandTableRows callRows command-table calls) matrices)
-    stacks)
-    geometries)
-    sounds)
-    unpacks
+    all-joined tables
+    (command-table, (calls, (matrices, (stacks, (geometries, (sounds, (unpacks, (packs, tt))))))))
