@@ -6,7 +6,9 @@ ghost use lib.ListN.{length};
 use equivalence::run_both;
 use feeding::Fed;
 use libc::STDIN_FILENO;
-use libc::STDOUT_FILENO;
+use printing::print_hex;
+use printing::print_number;
+use printing::print_text;
 use registers::status;
 use state::Engine;
 use stream::longest_list;
@@ -29,15 +31,6 @@ fn polygon_buffer() -> [u32; 6144]
     [0; 6144]
 }
 
-fn print_text(text: &[u8]) {
-    io::write_all(STDOUT_FILENO, text);
-}
-
-fn print_number(name: &[u8], n: u64) {
-    print_text(name);
-    io::print_decimal(STDOUT_FILENO, n);
-}
-
 fn print_refused(number: u32, place: u32) {
     print_number(b"refused ", number as u64);
     print_number(b" ", place as u64);
@@ -51,8 +44,7 @@ fn print_end(name: &[u8], end: Fed) {
     print_number(b" taken ", end.taken as u64);
     print_number(b" vertices ", used.vertices as u64);
     print_number(b" polygons ", used.polygons as u64);
-    print_text(b" status ");
-    io::print_hex(STDOUT_FILENO, read.status as u64, 8);
+    print_hex(b" status ", read.status);
     print_text(b"\n");
 }
 

@@ -1,3 +1,4 @@
 pub mod Agree
 pub mod CallLaws
 pub mod BothLaws
+pub mod RoundTripLaws

@@ -1,6 +1,7 @@
 // Prints products, fields and sums of extreme numbers. checks/extremes.py computes the same lines with unbounded
 // integers; the gate compares both with the stored output.
 use libc::STDOUT_FILENO;
+use printing::print_text;
 
 const LEAST: [i32; 16] = [-2147483648; 16];
 
@@ -24,10 +25,6 @@ const MIXED: [i32; 16] = [
     -1,
     4096,
 ];
-
-fn print_text(text: &[u8]) {
-    io::write_all(STDOUT_FILENO, text);
-}
 
 fn print_signed(x: i32) {
     let bits = lowbits::bits32(x) as u64;
