@@ -1,5 +1,6 @@
 // The commands: how many parameters each byte takes, the ports, and the bytes of a command word.
 // Document 01, "Commands and their parameters".
+ghost use mathlib.Core.Bool.{true};
 ghost use mathlib.Core.Path.{_≡_};
 ghost use Rattle.commands.specs.Commands.{lookup, parameterTable, known, count, port, commandAt};
 ghost use Rattle.commands.specs.Commands.{counted, commandBytes, hole};
@@ -367,6 +368,42 @@ pub fn command_at_in(table: &[u8; 256], address: u32) -> u8
         return 0;
     }
     counted_in(table, c as u8)
+}
+
+// What an address is: the port of a command that takes so many parameters, or no port. For the crates above this one.
+pub fn port_parameters_in(table: &[u8; 256], address: u32) -> Count
+    requires { ⌜ now table ≡ parameterTable ⌝ }
+    ensures { λ r. ⌜ r ≡ lookup (commandAt address) ⌝ }
+{
+    if address < PORTS {
+        return Count::Unknown;
+    }
+    let d = address - PORTS;
+    if d % 4 != 0 {
+        return Count::Unknown;
+    }
+    let c = d / 4;
+    if 255 < c {
+        return Count::Unknown;
+    }
+    parameters_in(table, c as u8)
+}
+
+// The command whose port an address is, where there is one. For the crates above this one.
+pub fn command_of_port(address: u32) -> u8
+    requires { ⌜ (commandAt address ≡ 0 → ⊥) ⌝ }
+    ensures { λ r. ⌜ r ≡ commandAt address ⌝ }
+{
+    ((address - PORTS) / 4) as u8
+}
+
+// How many parameters a command takes. For the crates above this one.
+pub fn known_count_in(table: &[u8; 256], byte: u8) -> usize
+    requires { ⌜ now table ≡ parameterTable ⌝ }
+    requires { ⌜ known byte ≡ true ⌝ }
+    ensures { λ r. ⌜ r ≡ count byte ⌝ }
+{
+    table[byte as usize] as usize
 }
 
 // The command whose port an address is, 0 where there is none.

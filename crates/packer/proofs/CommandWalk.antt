@@ -22,7 +22,8 @@ use Rattle.stream.proofs.ReadLaws.{stopped-not, prepend-none, idle-any}
 use Rattle.stream.proofs.UnpackLaws.{writes-for-none, writes-for-some, writes-for-bounds}
 use Rattle.stream.proofs.WriteLaws.{writes-at}
 use Rattle.packer.specs.declared.Found.{Found}
-use Rattle.packer.specs.Inside.{IsLog, restCommands, values, writeAt, byteAt, Begins, Finds}
+use Rattle.packer.specs.Inside.{IsLog, restCommands, values, AtPort, writeAt, byteAt, Begins}
+use Rattle.packer.specs.Inside.{Finds}
 use Rattle.packer.proofs.ValueLaws.{length-pairs, length-values, values-more}
 
 -- the values of the first j writes from i on, as far as command c takes them
@@ -197,23 +198,20 @@ module _ {log : List ℕ} {pairs : ℕ} (l : IsLog log pairs) (i : ℕ) (h : i <
   pub walk-none : commandAt (getD log (2 * i) 0) ≡ 0 → restCommands i (writes log) ≡ stopped 5 i
   walk-none z = no-command (writes log) i (omega (arith, length-pairs l)) (byte-at l i h ∙ z)
 
-  pub walk-start : (c n : ℕ) → commandAt (getD log (2 * i) 0) ≡ c → (c ≡ 0 → ⊥) → n ≡ count c
-      → Walking log pairs i (getD log (2 * i) 0) c n 1
-  walk-start c n p z k = record {
+  pub walk-start : (n : ℕ) → AtPort log i n
+      → Walking log pairs i (getD log (2 * i) 0) (commandAt (getD log (2 * i) 0)) n 1
+  walk-start n p = record {
     is-log = l;
     address-is = refl;
-    byte-is = p;
-    is-command = z;
-    counted = k;
+    byte-is = refl;
+    is-command = p .is-command;
+    counted = p .counted;
     some = omega arith;
-    most = by n refl;
+    most = omega (arith, writes-for-bounds n);
     within = omega arith;
-    read = begins (writes log) i c (omega (arith, length-pairs l)) (byte-at l i h ∙ p) z;
+    read = begins (writes log) i (commandAt (getD log (2 * i) 0)) (omega (arith, length-pairs l)) (byte-at l i h)
+        (p .is-command);
   }
-    where
-      by : (m : ℕ) → n ≡ m → 1 ≤ writesFor n
-      by zero e = omega (arith, writes-for-none n e)
-      by (suc m) e = omega (arith, writes-for-some n (omega arith))
 
 module _ {log : List ℕ} {pairs i address c n j : ℕ} (w : Walking log pairs i address c n j) where
   long : length (writes log) ≡ pairs
@@ -339,21 +337,21 @@ port-read (suc left) ws i c j all z f s m h e =
     by false a more = at-last ws i c j all z e s m h (ltb-false j (count c) a)
     by true a more = one-further ws i c j all z e (ltb-true j (count c) a) more
 
+pub read-command : (ws : List Write) (i : ℕ) (all : List Command) → i < length ws → restCommands i ws ≡ commands all
+    → byteAt ws i ≡ 0 → ⊥
+read-command ws i all h e z = stopped-not (sym (no-command ws i h z) ∙ e)
+
 pub read-begins : (ws : List Write) (i : ℕ) (all : List Command) → i < length ws → restCommands i ws ≡ commands all
     → Begins ws i (count (byteAt ws i))
-read-begins ws i all h e = by (byteAt ws i) refl (eqb (byteAt ws i) 0) refl
-  where
-    by : (c : ℕ) → byteAt ws i ≡ c → (t : Bool) → eqb (byteAt ws i) 0 ≡ t → Begins ws i (count (byteAt ws i))
-    by c b true a = stopped-not (sym (no-command ws i h (eqb-true (byteAt ws i) 0 a)) ∙ e)
-    by c b false a =
-        let z : byteAt ws i ≡ 0 → ⊥ = eqb-false (byteAt ws i) 0 a in
-        let n = count (byteAt ws i) in
-        let g = begins ws i (byteAt ws i) h refl z in
-        let bounds = writes-for-bounds n in
-        let r = port-read n ws i (byteAt ws i) 1 all z (omega arith) (omega arith) (omega (arith, bounds))
-        (omega arith) (sym g ∙ e) in
-        record {
-          read = g ∙ r .same ∙ complete ws i (byteAt ws i) (writesFor n) (omega (arith, bounds));
-          counted = refl;
-          within = r .there;
-        }
+read-begins ws i all h e =
+    let z : byteAt ws i ≡ 0 → ⊥ = read-command ws i all h e in
+    let n = count (byteAt ws i) in
+    let g = begins ws i (byteAt ws i) h refl z in
+    let bounds = writes-for-bounds n in
+    let r = port-read n ws i (byteAt ws i) 1 all z (omega arith) (omega arith) (omega (arith, bounds)) (omega arith)
+    (sym g ∙ e) in
+    record {
+      read = g ∙ r .same ∙ complete ws i (byteAt ws i) (writesFor n) (omega (arith, bounds));
+      counted = refl;
+      within = r .there;
+    }

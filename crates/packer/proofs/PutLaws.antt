@@ -25,7 +25,7 @@ use Rattle.packer.specs.declared.Places.{Places}
 use Rattle.packer.specs.Inside.{IsLog, restCommands, values, byteAt, commandFrom, Begins, IsGroup, GroupFits}
 use Rattle.packer.specs.Inside.{PutGroup}
 use Rattle.packer.proofs.ValueLaws.{length-pairs}
-use Rattle.packer.proofs.CommandWalk.{read-begins}
+use Rattle.packer.proofs.CommandWalk.{read-command, read-begins}
 use Rattle.packer.proofs.GroupLaws.{length-group, Taken, none-taken, taken-more, group-taken, packed-one}
 use Rattle.packer.proofs.GroupLaws.{packed-four, Passed, none-passed, one-more, length-more, passed-more}
 use Rattle.packer.proofs.GroupLaws.{all-passed, from-first}
@@ -148,6 +148,11 @@ module _ {log : List ℕ} {pairs i to : ℕ} {old : List ℕ} {next slot word en
   rest-is =
       behind (p .cs) (orNone (restCommands i (writes log))) (restCommands next (writes log))
       (sym (p .taken .read) ∙ p .fits .is-read)
+
+  -- a command begins at the next write
+  pub next-command : next < pairs → byteAt (writes log) next ≡ 0 → ⊥
+  next-command h =
+      read-command (writes log) next (rest-is .more) (omega (arith, length-pairs (p .fits .is-log))) (rest-is .is)
 
   -- the next command, of n parameters
   module _ (few : slot < 4) (h : next < pairs) (n : ℕ) (k : n ≡ count (byteAt (writes log) next)) where

@@ -32,6 +32,11 @@ values (w ∷ ws) = w .value ∷ values ws
 
 -- ---- one command
 
+-- write i goes to the port of a command of n parameters
+pub record AtPort (log : List ℕ) (i n : ℕ) : Type 0 where
+  pub is-command : commandAt (getD log (2 * i) 0) ≡ 0 → ⊥
+  pub counted : n ≡ count (commandAt (getD log (2 * i) 0))
+
 abbrev pub writeAt : List Write → ℕ → Write
 writeAt ws i = getD ws i (write 0 0)
 

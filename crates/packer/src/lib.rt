@@ -9,10 +9,13 @@ ghost use Rattle.commands.specs.Commands.{parameterTable};
 ghost use Rattle.stream.specs.Read.{writes, logCommands};
 ghost use Rattle.stream.specs.Output.{onBytes, measured, Stores};
 ghost use Rattle.stream.specs.Pack.{packedWords, orNone, IsRead, pack as Pack·pack};
-ghost use Rattle.packer.specs.Inside.{IsLog, values, Finds, Sizes, GroupFits, PutGroup};
+ghost use Rattle.packer.specs.Inside.{IsLog, values, AtPort, Finds, Sizes, GroupFits, PutGroup};
+use commands::Count;
 use commands::command_at_in;
-use commands::count_in;
+use commands::command_of_port;
+use commands::known_count_in;
 use commands::parameter_table;
+use commands::port_parameters_in;
 use stream::OutputAnswer;
 use stream::one_if;
 use stream::refused;
@@ -57,19 +60,15 @@ fn not_found(number: u32, place: usize) -> Found
     }
 }
 
-// The command that begins at the i-th write. "first bad pair (5 before 6), 8"
-fn next_command(table: &[u8; 256], log: &[u32], pairs: usize, i: usize) -> Found
+// The command whose port the i-th write goes to, which takes `count` parameters: whether all of them are written.
+fn all_written(table: &[u8; 256], log: &[u32], pairs: usize, i: usize, count: usize) -> Found
     requires { ⌜ now table ≡ parameterTable ⌝ }
     requires { ⌜ IsLog (now log) pairs ⌝ }
     requires { ⌜ i < pairs ⌝ }
+    requires { ⌜ AtPort (now log) i count ⌝ }
     ensures { λ r. ⌜ Finds (writes (now (log .entry))) i r ⌝ }
 {
     let address = log[2 * i];
-    let command = command_at_in(table, address);
-    if command == 0 {
-        return not_found(5, i);
-    }
-    let count = count_in(table, command);
     let mut j = 1;
     while j < count {
         let k = i + j;
@@ -89,6 +88,19 @@ fn next_command(table: &[u8; 256], log: &[u32], pairs: usize, i: usize) -> Found
         number: 0,
         place: 0,
         count: count,
+    }
+}
+
+// The command that begins at the i-th write. "first bad pair (5 before 6), 8"
+fn next_command(table: &[u8; 256], log: &[u32], pairs: usize, i: usize) -> Found
+    requires { ⌜ now table ≡ parameterTable ⌝ }
+    requires { ⌜ IsLog (now log) pairs ⌝ }
+    requires { ⌜ i < pairs ⌝ }
+    ensures { λ r. ⌜ Finds (writes (now (log .entry))) i r ⌝ }
+{
+    match port_parameters_in(table, log[2 * i]) {
+        Count::Takes(n) => all_written(table, log, pairs, i, n as usize),
+        Count::Unknown => not_found(5, i),
     }
 }
 
@@ -209,8 +221,8 @@ fn put_group(
     let mut end = to + 1;
     let mut none = false;
     while slot < SLOTS && next < pairs {
-        let byte = command_at_in(table, log[2 * next]);
-        let count = count_in(table, byte);
+        let byte = command_of_port(log[2 * next]);
+        let count = known_count_in(table, byte);
         put_values(log, next, count, buffer, end);
         word = with_byte(word, byte, slot);
         next = next + writes_for(count);

@@ -1,135 +1,66 @@
 -- `packer::next_command` meets its contract. Assumes nothing.
 use mathlib.Core.Path.{sym, _∙_}
-use Prim.Native.Nat.{_-_}
 use native.Mathlib.Omega.{arith}
 use borrow.Author.Needs.{needs}
-use Rattle.packer.proofs.CommandWalk.{Walking, walk-none, walk-start, walk-short, walk-no-port, walk-other}
-use Rattle.packer.proofs.CommandWalk.{walk-more, walk-end, not-found, is-found}
+use Rattle.commands.proofs.Commands.{port-takes, port-unknown}
+use Rattle.packer.proofs.CommandWalk.{walk-none, not-found}
 use Rattle.packer.proofs.next_command.Statement.{statement}
 use Rattle.packer.proofs.next_command.Tie as tie
 
-abbrev Inv-loop : tie.InvT-loop
-Inv-loop table log pairs i address command count j₀ j = Walking log pairs i address command count j
+mul-port-parameters-in : tie.Need-mul-port-parameters-in
+mul-port-parameters-in c = search needs
 
-abbrev μ-loop : tie.MeasureT-loop
-μ-loop table log pairs i address command count j₀ j = count - j
+mul-port-parameters-in-2 : tie.Need-mul-port-parameters-in-2
+mul-port-parameters-in-2 c = search needs
 
-mul-address : tie.Need-mul-address Inv-loop μ-loop
-mul-address c = search needs
+shared-slice-read-port-parameters-in : tie.Need-shared-slice-read-port-parameters-in
+shared-slice-read-port-parameters-in c = search needs
 
-mul-address-2 : tie.Need-mul-address-2 Inv-loop μ-loop
-mul-address-2 c = search needs
+port-parameters-in-requires : tie.Need-port-parameters-in-requires
+port-parameters-in-requires c κs = search needs
 
-shared-slice-read-address : tie.Need-shared-slice-read-address Inv-loop μ-loop
-shared-slice-read-address c = search needs
+enum-known-n : tie.Need-enum-known-n
+enum-known-n c = search needs
 
-command-at-in-requires : tie.Need-command-at-in-requires Inv-loop μ-loop
-command-at-in-requires c κs = search needs
+cast-all-written : tie.Need-cast-all-written
+cast-all-written c = search needs
 
-not-found-requires : tie.Need-not-found-requires Inv-loop μ-loop
+all-written-requires : tie.Need-all-written-requires
+all-written-requires c κs =
+    let a = c .before .before .before .before .before .before in
+    let found = c .before .before .before in
+    let t = port-takes _ _ (sym (found .port-parameters-in .ensures) ∙ c .before .n .given .1) in
+    (a .pre .0, (a .pre .1 .0, (a .pre .1 .1, record { is-command = t .0; counted = t .1 })))
+
+enum-told : tie.Need-enum-told
+enum-told c = search needs
+
+not-found-requires : tie.Need-not-found-requires
 not-found-requires c κs = search needs
 
-returns : tie.Need-returns Inv-loop μ-loop
-returns c =
-    let s = c .before .before .before .before .before in
-    not-found (c .not-found .ensures) (omega arith)
-    (walk-none (s .pre .1 .0) (s .args .i) (s .pre .1 .1)
-    (sym (c .before .before .command-at-in .ensures) ∙ c .before .if1 .taken))
+returns : tie.Need-returns
+returns c = c .all-written .ensures
 
-count-in-requires : tie.Need-count-in-requires Inv-loop μ-loop
-count-in-requires c κs = search needs
-
-loop-holds : tie.Need-loop-holds Inv-loop μ-loop
-loop-holds c =
-    let s = c .before .before .before .before .before in
-    walk-start (s .pre .1 .0) (s .args .i) (s .pre .1 .1) _ _ (sym (c .before .before .command-at-in .ensures))
-    (c .before .if1 .left) (c .count-in .ensures)
-
-add-k : tie.Need-add-k Inv-loop μ-loop
-add-k c = search needs
-
-not-found-requires-2 : tie.Need-not-found-requires-2 Inv-loop μ-loop
-not-found-requires-2 c κs = search needs
-
-returns-2 : tie.Need-returns-2 Inv-loop μ-loop
+returns-2 : tie.Need-returns-2
 returns-2 c =
-    not-found (c .not-found2 .ensures) (omega arith)
-    (walk-short (c .before .before .before .loop .inv) (c .before .before .loop-test .taken) (c .before .if2 .taken))
-
-mul-other : tie.Need-mul-other Inv-loop μ-loop
-mul-other c = search needs
-
-mul-other-2 : tie.Need-mul-other-2 Inv-loop μ-loop
-mul-other-2 c = search needs
-
-shared-slice-read-other : tie.Need-shared-slice-read-other Inv-loop μ-loop
-shared-slice-read-other c = search needs
-
-command-at-in-requires-2 : tie.Need-command-at-in-requires-2 Inv-loop μ-loop
-command-at-in-requires-2 c κs = search needs
-
-not-found-requires-3 : tie.Need-not-found-requires-3 Inv-loop μ-loop
-not-found-requires-3 c κs = search needs
-
-returns-3 : tie.Need-returns-3 Inv-loop μ-loop
-returns-3 c =
-    let w = c .before .before .before .before .before .before .before in
-    not-found (c .not-found3 .ensures) (omega arith)
-    (walk-no-port (w .loop .inv) (c .before .before .before .before .before .before .loop-test .taken)
-    (c .before .before .before .before .before .if2 .left)
-    (sym (c .before .before .command-at-in2 .ensures) ∙ c .before .if4 .taken))
-
-not-found-requires-4 : tie.Need-not-found-requires-4 Inv-loop μ-loop
-not-found-requires-4 c κs = search needs
-
-returns-4 : tie.Need-returns-4 Inv-loop μ-loop
-returns-4 c =
-    let w = c .before .before .before .before .before .before .before in
-    not-found (c .not-found4 .ensures) (omega arith)
-    (walk-other (w .loop .inv) (c .before .before .before .before .before .before .loop-test .taken)
-    (c .before .before .before .before .before .if2 .left) (c .before .before .before .if3 .taken)
-    (λ e. c .before .if4 .left (c .before .before .command-at-in2 .ensures ∙ e)))
-
-add-j : tie.Need-add-j Inv-loop μ-loop
-add-j c = search needs
-
-loop-less : tie.Need-loop-less Inv-loop μ-loop
-loop-less c = search needs
-
-loop-again : tie.Need-loop-again Inv-loop μ-loop
-loop-again c =
-    walk-more (c .before .before .before .before .loop .inv) (c .before .before .before .loop-test .taken)
-    (c .before .before .if2 .left) (c .if3 .left)
-
-returns-5 : tie.Need-returns-5 Inv-loop μ-loop
-returns-5 c = is-found (walk-end (c .before .loop .inv) (c .loop-test .left))
+    let a = c .before .before .before .before .before .before in
+    let found = c .before .before .before in
+    not-found (c .not-found .ensures) (omega arith)
+    (walk-none (a .pre .1 .0) (a .args .i) (a .pre .1 .1)
+    (port-unknown _ (sym (found .port-parameters-in .ensures) ∙ c .before .enum-told .given .1)))
 
 pub next-command-spec : {M : Type 1} → statement M
 next-command-spec =
     tie.close
     (tie.spec
-    Inv-loop
-    μ-loop
-    mul-address
-    mul-address-2
-    shared-slice-read-address
-    command-at-in-requires
+    mul-port-parameters-in
+    mul-port-parameters-in-2
+    shared-slice-read-port-parameters-in
+    port-parameters-in-requires
+    enum-known-n
+    cast-all-written
+    all-written-requires
+    enum-told
     not-found-requires
     returns
-    count-in-requires
-    loop-holds
-    add-k
-    not-found-requires-2
-    returns-2
-    mul-other
-    mul-other-2
-    shared-slice-read-other
-    command-at-in-requires-2
-    not-found-requires-3
-    returns-3
-    not-found-requires-4
-    returns-4
-    add-j
-    loop-less
-    loop-again
-    returns-5)
+    returns-2)

@@ -3,16 +3,17 @@ use mathlib.Core.Logic.{_⊎_, ⊎-elim, inl, inr}
 use mathlib.Core.Path.{_≡_, sym, ap, _∙_}
 use Prim.Native.Nat.{_+_, _-_, _*_, _≤_, _<_}
 use native.Mathlib.Omega.{arith}
-use lib.ListN.{length}
+use lib.ListN.{length, getD}
 use borrow.Author.Needs.{needs}
 use borrow.Author.Tests.{ltb-true, ltb-false}
-use Rattle.commands.specs.Commands.{count}
+use Rattle.commands.specs.Commands.{known, count, commandAt}
+use Rattle.commands.proofs.Commands.{port-of-command}
 use Rattle.stream.specs.Read.{writes}
 use Rattle.stream.specs.Unpack.{writesFor}
 use Rattle.packer.specs.Inside.{byteAt}
 use Rattle.packer.proofs.CommandWalk.{byte-at}
-use Rattle.packer.proofs.PutLaws.{PuttingGroup, put-group-start, values-room, next-bounds, put-group-more}
-use Rattle.packer.proofs.PutLaws.{end-room, dummy-room, put-dummy, put-plain}
+use Rattle.packer.proofs.PutLaws.{PuttingGroup, put-group-start, next-command, values-room, next-bounds}
+use Rattle.packer.proofs.PutLaws.{put-group-more, end-room, dummy-room, put-dummy, put-plain}
 use Rattle.packer.proofs.put_group.Statement.{statement}
 use Rattle.packer.proofs.put_group.Tie as tie
 
@@ -35,36 +36,46 @@ at-next : (c : tie.Then1 Inv-loop μ-loop)
 at-next c =
     ltb-true (c .before .before .loop .next) (c .before .before .before .before .before .args .pairs) (c .if1 .taken)
 
-mul-command-at-in : tie.Need-mul-command-at-in Inv-loop μ-loop
-mul-command-at-in c = omega (arith, at-next c, c .before .before .loop .inv .fits .is-log .few)
+-- at a command's port
+is-port : (c : tie.Then1 Inv-loop μ-loop)
+    → let l = c .before .before in
+    commandAt (getD (l .before .before .before .args .log .now) (2 * l .loop .next) 0) ≡ 0 → ⊥
+is-port c z =
+    let p = c .before .before .loop .inv in
+    next-command p (at-next c) (byte-at (p .fits .is-log) (c .before .before .loop .next) (at-next c) ∙ z)
 
-mul-command-at-in-2 : tie.Need-mul-command-at-in-2 Inv-loop μ-loop
-mul-command-at-in-2 c = omega (arith, at-next c, c .before .before .loop .inv .fits .is-log .few)
+mul-command-of-port : tie.Need-mul-command-of-port Inv-loop μ-loop
+mul-command-of-port c = omega (arith, at-next c, c .before .before .loop .inv .fits .is-log .few)
 
-shared-slice-read-command-at-in : tie.Need-shared-slice-read-command-at-in Inv-loop μ-loop
-shared-slice-read-command-at-in c =
+mul-command-of-port-2 : tie.Need-mul-command-of-port-2 Inv-loop μ-loop
+mul-command-of-port-2 c = omega (arith, at-next c, c .before .before .loop .inv .fits .is-log .few)
+
+shared-slice-read-command-of-port : tie.Need-shared-slice-read-command-of-port Inv-loop μ-loop
+shared-slice-read-command-of-port c =
     let p = c .before .before .before .loop .inv in
     omega (arith, at-next (c .before), p .fits .is-log .even)
 
-command-at-in-requires : tie.Need-command-at-in-requires Inv-loop μ-loop
-command-at-in-requires c κs = search needs
+command-of-port-requires : tie.Need-command-of-port-requires Inv-loop μ-loop
+command-of-port-requires c κs = is-port (c .before)
 
-count-in-requires : tie.Need-count-in-requires Inv-loop μ-loop
-count-in-requires c κs = search needs
+known-count-in-requires : tie.Need-known-count-in-requires Inv-loop μ-loop
+known-count-in-requires c κs =
+    let e = c .command-of-port .ensures in
+    (search needs, ap known e ∙ port-of-command _ (is-port (c .before .before)) .is-known)
 
 -- its command, and how many parameters that takes
-byte-is : (c : tie.After-count-in Inv-loop μ-loop)
+byte-is : (c : tie.After-known-count-in Inv-loop μ-loop)
     → let l = c .before .before .before .before .before in
-    c .before .command-at-in .result ≡ byteAt (writes (l .before .before .before .args .log .now)) (l .loop .next)
+    c .before .command-of-port .result ≡ byteAt (writes (l .before .before .before .args .log .now)) (l .loop .next)
 byte-is c =
     let l = c .before .before .before .before .before in
-    c .before .command-at-in .ensures
+    c .before .command-of-port .ensures
     ∙ sym (byte-at (l .loop .inv .fits .is-log) (l .loop .next) (at-next (c .before .before .before)))
 
-counted : (c : tie.After-count-in Inv-loop μ-loop)
+counted : (c : tie.After-known-count-in Inv-loop μ-loop)
     → let l = c .before .before .before .before .before in
-    c .count-in .result ≡ count (byteAt (writes (l .before .before .before .args .log .now)) (l .loop .next))
-counted c = c .count-in .ensures ∙ ap count (byte-is c)
+    c .known-count-in .result ≡ count (byteAt (writes (l .before .before .before .args .log .now)) (l .loop .next))
+counted c = c .known-count-in .ensures ∙ ap count (byte-is c)
 
 put-values-requires : tie.Need-put-values-requires Inv-loop μ-loop
 put-values-requires c κs =
@@ -85,7 +96,7 @@ writes-for-requires c κs = search needs
 bounds : (c : tie.After-writes-for Inv-loop μ-loop)
     → let n = c .before .before .before .before .before .before in
     let l = n .before .before .before .before .before .loop in
-    let k = n .count-in .result in
+    let k = n .known-count-in .result in
     (l .end + k ≤ length (l .buffer)) × (l .next + writesFor k ≤ 4096)
 bounds c =
     let n = c .before .before .before .before .before .before in
@@ -161,11 +172,11 @@ put-group-spec =
     μ-loop
     add-end
     loop-holds
-    mul-command-at-in
-    mul-command-at-in-2
-    shared-slice-read-command-at-in
-    command-at-in-requires
-    count-in-requires
+    mul-command-of-port
+    mul-command-of-port-2
+    shared-slice-read-command-of-port
+    command-of-port-requires
+    known-count-in-requires
     put-values-requires
     with-byte-requires
     writes-for-requires
