@@ -278,8 +278,9 @@ pub not-found : {ws : List Write} {i n p : ℕ} {r : Found} → r ≡ record { n
     → restCommands i ws ≡ stopped n p → Finds ws i r
 not-found e s q = rw e (record { refused = λ _. q; found = λ z. absurd (omega arith) })
 
-pub is-found : {ws : List Write} {i n : ℕ} → Begins ws i n → Finds ws i (record { number = 0; place = 0; count = n })
-is-found b = record { refused = λ d. absurd (d refl); found = λ _. b }
+pub is-found : {ws : List Write} {i n : ℕ} {r : Found} → r ≡ record { number = 0; place = 0; count = n }
+    → Begins ws i n → Finds ws i r
+is-found e b = rw e (record { refused = λ d. absurd (d refl); found = λ _. b })
 
 -- ---- in an accepted log a command begins where none is pending
 

@@ -3,7 +3,8 @@ use mathlib.Core.Path.{sym, _∙_}
 use native.Mathlib.Omega.{arith}
 use borrow.Author.Needs.{needs}
 use Rattle.commands.proofs.Commands.{port-takes, port-unknown}
-use Rattle.packer.proofs.CommandWalk.{walk-none, not-found}
+use Rattle.packer.specs.Inside.{AtPort}
+use Rattle.packer.proofs.CommandWalk.{walk-none, walk-start, walk-end, not-found, is-found}
 use Rattle.packer.proofs.next_command.Statement.{statement}
 use Rattle.packer.proofs.next_command.Tie as tie
 
@@ -22,15 +23,34 @@ port-parameters-in-requires c κs = search needs
 enum-known-n : tie.Need-enum-known-n
 enum-known-n c = search needs
 
+-- the write goes to a command's port
+at-port : (c : tie.After-known-told)
+    → let a = c .before .before .before .before .before .before in
+    AtPort (a .args .log .now) (a .args .i) (c .before .n .given .0 .0)
+at-port c =
+    let called = c .before .before .before .port-parameters-in in
+    let t = port-takes _ _ (sym (called .ensures) ∙ c .before .n .given .1) in
+    record { is-command = t .0; counted = t .1 }
+
+command-of-requires : tie.Need-command-of-requires
+command-of-requires c κs = search needs
+
+returns : tie.Need-returns
+returns c =
+    let told = c .before .before in
+    let a = told .before .before .before .before .before .before in
+    let p = rw (c .before .if1 .taken) at (at-port told) in
+    is-found (c .command-of .ensures)
+    (walk-end (walk-start (a .pre .1 .0) (a .args .i) (a .pre .1 .1) 0 p) (omega arith))
+
 cast-all-written : tie.Need-cast-all-written
 cast-all-written c = search needs
 
 all-written-requires : tie.Need-all-written-requires
 all-written-requires c κs =
-    let a = c .before .before .before .before .before .before in
-    let found = c .before .before .before in
-    let t = port-takes _ _ (sym (found .port-parameters-in .ensures) ∙ c .before .n .given .1) in
-    (a .pre .0, (a .pre .1 .0, (a .pre .1 .1, record { is-command = t .0; counted = t .1 })))
+    let told = c .before in
+    let a = told .before .before .before .before .before .before in
+    (a .pre .0, (a .pre .1 .0, (a .pre .1 .1, at-port told)))
 
 enum-told : tie.Need-enum-told
 enum-told c = search needs
@@ -38,16 +58,16 @@ enum-told c = search needs
 not-found-requires : tie.Need-not-found-requires
 not-found-requires c κs = search needs
 
-returns : tie.Need-returns
-returns c = c .all-written .ensures
-
 returns-2 : tie.Need-returns-2
-returns-2 c =
+returns-2 c = c .all-written .ensures
+
+returns-3 : tie.Need-returns-3
+returns-3 c =
     let a = c .before .before .before .before .before .before in
-    let found = c .before .before .before in
+    let called = c .before .before .before .port-parameters-in in
     not-found (c .not-found .ensures) (omega arith)
     (walk-none (a .pre .1 .0) (a .args .i) (a .pre .1 .1)
-    (port-unknown _ (sym (found .port-parameters-in .ensures) ∙ c .before .enum-told .given .1)))
+    (port-unknown _ (sym (called .ensures) ∙ c .before .enum-told .given .1)))
 
 pub next-command-spec : {M : Type 1} → statement M
 next-command-spec =
@@ -58,9 +78,11 @@ next-command-spec =
     shared-slice-read-port-parameters-in
     port-parameters-in-requires
     enum-known-n
+    command-of-requires
+    returns
     cast-all-written
     all-written-requires
     enum-told
     not-found-requires
-    returns
-    returns-2)
+    returns-2
+    returns-3)
