@@ -186,12 +186,6 @@ module _ {log : List ℕ} {pairs i to : ℕ} {old : List ℕ} {next slot word en
       ),
     )
 
-    pub next-bounds : (next + writesFor n ≤ 4096) × (n ≤ 160)
-    next-bounds = (
-      omega (arith, b .within, length-pairs (p .fits .is-log), p .fits .is-log .few),
-      omega (arith, t .small),
-    )
-
     pub put-group-more : (new′ : List ℕ) → new′ ≡ sets new end (values (take n (drop next (writes log))))
         → (word′ : ℕ) → word′ ≡ word + 256 ^ slot * byteAt (writes log) next → word′ < 256 ^ (slot + 1)
         → PuttingGroup log pairs i to old (next + writesFor n) (slot + 1) word′ (end + n) (eqb n 0) new′

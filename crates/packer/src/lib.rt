@@ -9,6 +9,7 @@ ghost use Rattle.commands.specs.Commands.{parameterTable};
 ghost use Rattle.stream.specs.Read.{writes, logCommands};
 ghost use Rattle.stream.specs.Output.{onBytes, measured, Stores};
 ghost use Rattle.stream.specs.Pack.{packedWords, orNone, IsRead, pack as Pack·pack};
+ghost use Rattle.stream.specs.Unpack.{writesFor};
 ghost use Rattle.packer.specs.Inside.{IsLog, values, AtPort, Finds, Sizes, GroupFits, PutGroup};
 use commands::Count;
 use commands::command_at_in;
@@ -180,18 +181,23 @@ fn measure(table: &[u8; 256], log: &[u32], pairs: usize) -> OutputAnswer
     }
 }
 
-// The values of `count` writes from the i-th on, into the buffer from `to` on.
-fn put_values(log: &[u32], i: usize, count: usize, buffer: &mut [u32], to: usize)
+// The parameters of a command that begins at the i-th write, into the buffer from `to` on; the write behind it.
+fn put_values(log: &[u32], i: usize, count: usize, buffer: &mut [u32], to: usize) -> usize
     requires { ⌜ 2 * (i + count) ≤ length (now log) ⌝ }
     requires { ⌜ to + count ≤ length (now buffer) ⌝ }
-    ensures { λ _. ⌜ now (buffer .exit)
+    ensures { λ r. ⌜ r ≡ i + writesFor count ⌝ }
+    ensures { λ r. ⌜ now (buffer .exit)
         ≡ sets (now (buffer .entry)) to (values (take count (drop i (writes (now (log .entry)))))) ⌝ }
 {
+    if count == 0 {
+        return i + 1;
+    }
     let mut j = 0;
     while j < count {
         buffer[to + j] = log[2 * (i + j) + 1];
         j += 1;
     }
+    i + count
 }
 
 // A command word with one command more.
@@ -235,9 +241,8 @@ fn put_group(
     while slot < SLOTS && next < pairs {
         let byte = command_of_port(log[2 * next]);
         let count = known_count_in(table, byte);
-        put_values(log, next, count, buffer, end);
+        next = put_values(log, next, count, buffer, end);
         word = with_byte(word, byte, slot);
-        next = next + writes_for(count);
         end = end + count;
         none = count == 0;
         slot += 1;

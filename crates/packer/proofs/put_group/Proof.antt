@@ -9,10 +9,9 @@ use borrow.Author.Tests.{ltb-true, ltb-false}
 use Rattle.commands.specs.Commands.{known, count, commandAt}
 use Rattle.commands.proofs.Commands.{port-of-command}
 use Rattle.stream.specs.Read.{writes}
-use Rattle.stream.specs.Unpack.{writesFor}
 use Rattle.packer.specs.Inside.{byteAt}
 use Rattle.packer.proofs.CommandWalk.{byte-at}
-use Rattle.packer.proofs.PutLaws.{PuttingGroup, put-group-start, next-command, values-room, next-bounds}
+use Rattle.packer.proofs.PutLaws.{PuttingGroup, put-group-start, next-command, values-room}
 use Rattle.packer.proofs.PutLaws.{put-group-more, end-room, dummy-room, put-dummy, put-plain}
 use Rattle.packer.proofs.put_group.Statement.{statement}
 use Rattle.packer.proofs.put_group.Tie as tie
@@ -89,28 +88,14 @@ with-byte-requires c κs =
     let t = c .before .before .before .before .before .before .before .before in
     (t .loop-test .taken, t .before .loop .inv .word-small)
 
-writes-for-requires : tie.Need-writes-for-requires Inv-loop μ-loop
-writes-for-requires c κs = search needs
-
--- the next command is within the log, and its parameters within the buffer
-bounds : (c : tie.After-writes-for Inv-loop μ-loop)
-    → let n = c .before .before .before .before .before .before in
-    let l = n .before .before .before .before .before .loop in
-    let k = n .known-count-in .result in
-    (l .end + k ≤ length (l .buffer)) × (l .next + writesFor k ≤ 4096)
-bounds c =
-    let n = c .before .before .before .before .before .before in
-    let t = n .before .before .before .before in
-    let p = t .before .loop .inv in (
-      values-room p (t .loop-test .taken) (at-next (n .before .before .before)) _ (counted n) .1,
-      next-bounds p (t .loop-test .taken) (at-next (n .before .before .before)) _ (counted n) .0,
-    )
-
-add-next : tie.Need-add-next Inv-loop μ-loop
-add-next c = omega (arith, bounds c .1, c .writes-for .ensures)
-
 add-end-2 : tie.Need-add-end-2 Inv-loop μ-loop
-add-end-2 c = omega (arith, bounds c .0)
+add-end-2 c =
+    let n = c .before .before .before .before .before in
+    let t = n .before .before .before .before in
+    omega (
+      arith,
+      values-room (t .before .loop .inv) (t .loop-test .taken) (at-next (n .before .before .before)) _ (counted n) .1,
+    )
 
 add-slot : tie.Need-add-slot Inv-loop μ-loop
 add-slot c = search needs
@@ -120,14 +105,13 @@ loop-less c = search needs
 
 loop-again : tie.Need-loop-again Inv-loop μ-loop
 loop-again c =
-    let n = c .before .before .before .before .before .before in
+    let n = c .before .before .before .before .before in
     let t = n .before .before .before .before in
-    let p = t .before .loop .inv in
-    let put = c .before .before .before .before .put-values in
-    let b = c .before .with-byte in
-    rw (c .writes-for .ensures)
-    (put-group-more p (t .loop-test .taken) (at-next (n .before .before .before)) _ (counted n) _ (put .ensures) _
-    (b .ensures .0 ∙ rw (byte-is n)) (b .ensures .1))
+    let put = c .before .before .before .put-values in
+    let b = c .with-byte in
+    rw (put .ensures .0)
+    (put-group-more (t .before .loop .inv) (t .loop-test .taken) (at-next (n .before .before .before)) _ (counted n) _
+    (put .ensures .1) _ (b .ensures .0 ∙ rw (byte-is n)) (b .ensures .1))
 
 -- the group is full, or the log is at its end
 ways : (c : tie.Left-loop Inv-loop μ-loop)
@@ -149,8 +133,8 @@ mul-buffer-2 c = search needs
 slice-write-buffer-2 : tie.Need-slice-write-buffer-2 Inv-loop μ-loop
 slice-write-buffer-2 c = dummy-room (c .before .before .loop .inv) (ways (c .before)) (c .if2 .taken)
 
-add-t26 : tie.Need-add-t26 Inv-loop μ-loop
-add-t26 c = search needs
+add-t25 : tie.Need-add-t25 Inv-loop μ-loop
+add-t25 c = search needs
 
 same-length : tie.Need-same-length Inv-loop μ-loop
 same-length c = search needs
@@ -179,8 +163,6 @@ put-group-spec =
     known-count-in-requires
     put-values-requires
     with-byte-requires
-    writes-for-requires
-    add-next
     add-end-2
     add-slot
     loop-less
@@ -189,7 +171,7 @@ put-group-spec =
     slice-write-buffer
     mul-buffer-2
     slice-write-buffer-2
-    add-t26
+    add-t25
     same-length
     returns
     same-length-2
