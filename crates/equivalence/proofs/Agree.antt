@@ -1,10 +1,6 @@
 -- Demand 3 of the engine, from demand 3 over any engine; and that the list of "Equal ends" leaves nothing out.
 -- Assumes nothing.
-use mathlib.Core.List.{List}
-use mathlib.Core.Path.{_≡_, refl, ap}
-use mathlib.Core.Bool.{true}
-use Prim.Native.Nat.{ℕ}
-use lib.IntN.{ℤ}
+use mathlib.Core.Path.{_≡_, refl}
 use Rattle.stream.specs.Command.{Command, Complete}
 use Rattle.stream.specs.Call.{Machine}
 use Rattle.stream.specs.Demand3.{Usable}
@@ -17,7 +13,6 @@ use Rattle.state.specs.declared.Waiting.{Waiting}
 use Rattle.state.specs.declared.Counts.{Counts}
 use Rattle.state.specs.declared.Geometry.{Geometry}
 use Rattle.state.specs.declared.Core.{Core}
-use Rattle.state.specs.declared.Engine.{Engine}
 use Rattle.state.proofs.SoundLaws.{sound-parts}
 use Rattle.state.specs.Sound.{soundStream}
 use Rattle.polygons.specs.Buffers.{Buffered, buffered}
@@ -26,7 +21,7 @@ use Rattle.execute.proofs.Keeps.{execute-kept, long-enough-kept}
 use Rattle.engine.specs.Call.{exec, coreSound, machineOf}
 use Rattle.engine.proofs.Calls.{sound-core}
 use Rattle.equivalence.specs.EqualEnds.{transformOf, stacksOf, geometryOf, waitingOf, EqualEnds}
-use Rattle.equivalence.specs.Demand3.{Start, Demand3, Demand3Holds}
+use Rattle.equivalence.specs.Demand3.{Demand3Holds}
 
 -- equal machines agree in every item
 pub all-equal : (a b : Machine (Buffered Core)) → a ≡ b → EqualEnds a b

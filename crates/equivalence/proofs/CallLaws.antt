@@ -1,20 +1,17 @@
 -- Calls by their contracts follow the definitions, so demand 3 holds of calls that were really made. Assumes nothing.
-use mathlib.Core.List.{List, _∷_}
+use mathlib.Core.List.{List}
 use mathlib.Core.Path.{_≡_, refl, sym, ap, subst, _∙_}
 use Prim.Native.Nat.{ℕ}
 use lib.ListN.{length}
 use Rattle.stream.specs.declared.OutputAnswer.{OutputAnswer}
-use Rattle.stream.specs.Read.{writes}
-use Rattle.stream.specs.Output.{Output}
 use Rattle.stream.specs.Pack.{pack}
 use Rattle.stream.specs.Call.{Machine, Reply}
 use Rattle.stream.specs.Demand3.{after, AllTaken}
 use Rattle.stream.proofs.OutputLaws.{stored-words}
 use Rattle.state.specs.declared.Core.{Core}
 use Rattle.polygons.specs.Buffers.{Buffered}
-use Rattle.engine.specs.Call.{replyOf, wordReply, portReply}
-use Rattle.equivalence.specs.EqualEnds.{SidesAgree}
-use Rattle.equivalence.specs.Calls.{Lent, lent, machineAt, Calls, none, one, AllZero, BothSides, CallsAgree}
+use Rattle.engine.specs.Call.{wordReply}
+use Rattle.equivalence.specs.Calls.{Lent, machineAt, Calls, none, one, AllZero, BothSides, CallsAgree}
 use Rattle.equivalence.proofs.Agree.{engine-demand3}
 
 module _ {A : Type 0} {call : Machine (Buffered Core) → A → Reply (Buffered Core)} where

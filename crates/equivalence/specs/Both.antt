@@ -2,17 +2,14 @@
 use mathlib.Core.List.{List}
 use mathlib.Core.Path.{_≡_}
 use Prim.Native.Nat.{ℕ}
-use lib.IntN.{ℤ}
 use lib.ListN.{length, take}
 use Rattle.stream.specs.Read.{writes}
 use Rattle.stream.specs.Output.{Stores}
 use Rattle.stream.specs.Pack.{pack}
-use Rattle.state.specs.declared.Engine.{Engine}
 use Rattle.engine.specs.Call.{wordReply, portReply}
 use Rattle.feeding.specs.Feed.{fed, feed, fedOf}
 use Rattle.equivalence.specs.declared.BothEnds.{BothEnds}
 use Rattle.equivalence.specs.EqualEnds.{SidesAgree}
-use Rattle.equivalence.specs.Demand3.{Start}
 use Rattle.equivalence.specs.Calls.{Lent, machineAt}
 
 -- The two sides of a log, as far as they were run: a is where the port writes start and b what they leave, c where the

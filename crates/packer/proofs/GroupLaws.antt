@@ -1,6 +1,6 @@
 -- The commands of one command word, taken from a log one by one, and packed words group by group: the invariants of the
 -- loops that measure. Assumes nothing.
-use mathlib.Core.Bool.{Bool, true, false}
+use mathlib.Core.Bool.{Bool, false}
 use mathlib.Core.List.{List, [], _∷_, _++_, append-assoc, append-nil}
 use mathlib.Core.Logic.{_⊎_, inl, inr}
 use mathlib.Core.Path.{_≡_, refl, sym, ap, _∙_}
@@ -10,7 +10,6 @@ use lib.Dec.{eqb}
 use lib.ListN.{length, take, drop, length-append, length-drop, drop-of-length-le}
 use lib.Seq.{length-take-le}
 use Rattle.commands.proofs.Table.{count-small}
-use Rattle.stream.specs.declared.OutputAnswer.{OutputAnswer}
 use Rattle.stream.specs.Command.{takesNone, Command, Write}
 use Rattle.stream.specs.Read.{commands, prepend, writes, logCommands}
 use Rattle.stream.specs.Output.{refusal, answerOf, measured}
