@@ -1,7 +1,7 @@
 // The entries for C: packer and unpacker on byte slices. Document 01, "Packer and unpacker can be called from our C
 // editor on byte slices." `bindings/c/nauvelppi.h` declares them.
 ghost use mathlib.Core.Path.{_≡_};
-ghost use Prim.Native.Nat.{_/_, _%_, min};
+ghost use Prim.Native.Nat.{_%_};
 ghost use lib.Dec.{eqb};
 ghost use lib.ListN.{length};
 ghost use Rattle.stream.specs.Pack.{pack};
@@ -13,6 +13,7 @@ use stream::longest_list;
 use stream::longest_log;
 use stream::refused;
 use unpacker::unpack_bytes;
+use words::least;
 use words::write_words;
 
 // The longest list, in words: a log is packed to no more.
@@ -28,14 +29,6 @@ fn is_whole(size: usize) -> bool
     size % 4 == 0
 }
 
-// The capacity in words of an output of so many bytes, or the most that is ever needed, where that is less.
-fn capacity_of(size: usize, most: usize) -> usize
-    ensures { λ r. ⌜ r ≡ min (size / 4) most ⌝ }
-{
-    let words = size / 4;
-    if words < most { words } else { most }
-}
-
 // A log as bytes is packed to a list as bytes, little-endian words both.
 #[no_mangle]
 pub extern "C" fn nauvelppi_pack(log: &[u8], output: &mut [u8]) -> OutputAnswer
@@ -45,7 +38,7 @@ pub extern "C" fn nauvelppi_pack(log: &[u8], output: &mut [u8]) -> OutputAnswer
     if !is_whole(output.len()) {
         return refused(7, 0);
     }
-    let capacity = capacity_of(output.len(), LONGEST_LIST);
+    let capacity = least(output.len() / 4, LONGEST_LIST);
     let mut list = longest_list();
     let answer = pack_bytes(log, &mut list[..capacity]);
     let length = answer.length as usize;
@@ -62,7 +55,7 @@ pub extern "C" fn nauvelppi_unpack(list: &[u8], output: &mut [u8]) -> OutputAnsw
     if !is_whole(output.len()) {
         return refused(7, 0);
     }
-    let capacity = capacity_of(output.len(), LONGEST_LOG);
+    let capacity = least(output.len() / 4, LONGEST_LOG);
     let mut log = longest_log();
     let answer = unpack_bytes(list, &mut log[..capacity]);
     let length = answer.length as usize;

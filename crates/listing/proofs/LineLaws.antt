@@ -8,22 +8,12 @@ use Rattle.words.proofs.Over.{take-next}
 use Rattle.stream.specs.Command.{Write, write}
 use Rattle.stream.specs.Read.{writes}
 use Rattle.stream.proofs.UnpackLaws.{length-writes}
+use Rattle.stream.proofs.WriteLaws.{writes-at}
 use Rattle.listing.specs.Text.{ascii, writeLine, wordLine, linesOf, writeLines, wordLines, numberLine}
 use Rattle.listing.specs.Text.{portsText, wordsText, refusedLine}
 use Rattle.listing.specs.Buffer.{Puts}
 use Rattle.listing.proofs.PutLaws.{puts-both}
 use Rattle.listing.proofs.NumberLaws.{length-hex, length-decimal}
-
--- the port write at a place of a log
-writes-at : (log : List ℕ) (i : ℕ) → i < length log / 2
-    → getD (writes log) i (write 0 0) ≡ write (getD log (2 * i) 0) (getD log (2 * i + 1) 0)
-writes-at [] i h = absurd (omega arith)
-writes-at (a ∷ []) i h = absurd (omega arith)
-writes-at (a ∷ v ∷ l) zero h = refl
-writes-at (a ∷ v ∷ l) (suc i) h =
-    let address : 2 * suc i ≡ suc (suc (2 * i)) = omega arith in
-    let value : 2 * suc i + 1 ≡ suc (suc (2 * i + 1)) = omega arith in
-    rw (value, address) (writes-at l i (omega arith))
 
 -- a line for each of some elements
 module _ {A : Type 0} (line : A → List ℕ) where
@@ -57,7 +47,7 @@ pub puts-write : (log : List ℕ) (i : ℕ) {at next end : ℕ} {old text new : 
     → Puts (writeLine (write (getD log (2 * i) 0) (getD log (2 * i + 1) 0))) next end text new
     → Puts (writeLines (take (i + 1) (writes log))) at end old new
 puts-write log i h p q =
-    puts-line writeLine (writes log) i (write 0 0) (rw (length-writes log) h) p (rw (writes-at log i h) q)
+    puts-line writeLine (writes log) i (write 0 0) (rw (length-writes log) h) p (rw (writes-at log i (omega arith)) q)
 
 pub length-writeLine : (w : Write) → length (writeLine w) ≡ 18
 unfolding writeLine

@@ -8,8 +8,9 @@ use native.Mathlib.Numerals.{add-one}
 use native.Mathlib.Omega.{arith}
 use lib.Dec.{ltb, eqb}
 use lib.ListN.{length, getD, take, drop, length-drop, drop-of-length-le}
-use lib.Seq.{drop-cons, getD-drop, length-take-le}
+use lib.Seq.{getD-drop, length-take-le}
 use borrow.Author.Tests.{eq-eqb, ne-eqb, lt-ltb, le-ltb, ltb-true, ltb-false, eqb-true, eqb-false}
+use Rattle.words.proofs.Over.{drop-next}
 use Rattle.commands.specs.Commands.{count, port, commandAt}
 use Rattle.commands.proofs.Commands.{port-of-command}
 use Rattle.stream.specs.Pending.{Pending, idle, portPending}
@@ -50,10 +51,6 @@ case-parameter c h f k = by (ltb (length h) (count c))
     by true = refl
     by false = refl
 
--- the writes from i on
-one-on : (ws : List Write) (i : ℕ) → i < length ws → drop i ws ≡ writeAt ws i ∷ drop (i + 1) ws
-one-on ws i h = rw (add-one i) (drop-cons ws i (write 0 0) h)
-
 -- the first value
 held-first : (c : ℕ) (w : Write) (l : List Write) → heldWith c [] (w .value) ≡ values (take (min 1 (count c)) (w ∷ l))
 unfolding heldWith
@@ -87,15 +84,15 @@ module _ (ws : List Write) (i : ℕ) where
 
   no-command : i < length ws → byteAt ws i ≡ 0 → restCommands i ws ≡ stopped 5 i
   unfolding restCommands portStep
-  no-command h e = rw (one-on ws i h, e)
+  no-command h e = rw (drop-next ws i (write 0 0) h, e)
 
   begins : (c : ℕ) → i < length ws → byteAt ws i ≡ c → (c ≡ 0 → ⊥) → restCommands i ws ≡ onPort ws i c 1
   unfolding restCommands portStep onPort
   begins c h e n =
       let k : length (values (take (min 1 (count c)) (writeAt ws i ∷ drop (i + 1) ws))) ≡ min 1 (count c) =
-      rw (one-on ws i h) at (length-held c 1 (omega arith)) in
+      rw (drop-next ws i (write 0 0) h) at (length-held c 1 (omega arith)) in
       rw (
-        one-on ws i h,
+        drop-next ws i (write 0 0) h,
         e,
         ne-eqb c 0 n,
         held-first c (writeAt ws i) (drop (i + 1) ws),
@@ -126,7 +123,7 @@ module _ (ws : List Write) (i : ℕ) where
 
     no-port : i + j < length ws → byteAt ws (i + j) ≡ 0 → onPort ws i c j ≡ stopped 5 (i + j)
     unfolding portStep
-    no-port h e = looks ∙ rw (one-on ws (i + j) h, e)
+    no-port h e = looks ∙ rw (drop-next ws (i + j) (write 0 0) h, e)
 
     other-port : i + j < length ws → (byteAt ws (i + j) ≡ 0 → ⊥) → (byteAt ws (i + j) ≡ c → ⊥)
         → onPort ws i c j ≡ stopped 6 (i + j)
@@ -134,7 +131,7 @@ module _ (ws : List Write) (i : ℕ) where
     other-port h n m =
         looks
         ∙ rw (
-          one-on ws (i + j) h,
+          drop-next ws (i + j) (write 0 0) h,
           ne-eqb (byteAt ws (i + j)) 0 n,
           ne-eqb c 0 is,
           ne-eqb c (byteAt ws (i + j)) (λ e. m (sym e)),
@@ -153,7 +150,7 @@ module _ (ws : List Write) (i : ℕ) where
         let k : length (heldAt ws i c (j + 1)) ≡ j + 1 = length-held c (j + 1) (omega arith) ∙ omega arith in
         looks
         ∙ rw (
-          one-on ws (i + j) h,
+          drop-next ws (i + j) (write 0 0) h,
           e,
           ne-eqb c 0 is,
           eq-eqb c c refl,

@@ -24,8 +24,8 @@ returns c =
     refused-output pack (a .log .now) (a .output .now) (c .refused .result)
     (sym (test .is-whole .ensures) ∙ not-true (test .is-whole .result) (c .before .if1 .taken)) (c .refused .ensures)
 
-capacity-of-requires : tie.Need-capacity-of-requires
-capacity-of-requires c κs = search needs
+least-requires : tie.Need-least-requires
+least-requires c κs = search needs
 
 longest-list-requires : tie.Need-longest-list-requires
 longest-list-requires c κs = search needs
@@ -47,14 +47,14 @@ made : (c : tie.After-pack-bytes)
     → let list = c .before .before in
     let a = list .before .before .before .before .before .before .args in
     Made pack 8192 (length (a .output .now)) (a .log .now) (list .longest-list .result)
-    (c .pack-bytes .last .1 .0) (list .before .capacity-of .result) (c .pack-bytes .result)
+    (c .pack-bytes .last .1 .0) (list .before .least .result) (c .pack-bytes .result)
 made c =
     let list = c .before .before in
     let left = list .before .before in
     let test = left .before .is-whole in
     record {
       whole = sym (test .ensures) ∙ not-false (test .result) (left .if1 .left);
-      capacity = list .before .capacity-of .ensures;
+      capacity = list .before .least .ensures;
       long = list .longest-list .ensures;
       stores = c .pack-bytes .ensures;
       kept = c .pack-bytes .kept .1 .0;
@@ -91,7 +91,7 @@ nauvelppi-pack-spec =
     is-whole-requires
     refused-requires
     returns
-    capacity-of-requires
+    least-requires
     longest-list-requires
     array-borrow-prefix-list
     slice-aggregate-pack-bytes

@@ -24,8 +24,8 @@ returns c =
     refused-output unpack (a .list .now) (a .output .now) (c .refused .result)
     (sym (test .is-whole .ensures) ∙ not-true (test .is-whole .result) (c .before .if1 .taken)) (c .refused .ensures)
 
-capacity-of-requires : tie.Need-capacity-of-requires
-capacity-of-requires c κs = search needs
+least-requires : tie.Need-least-requires
+least-requires c κs = search needs
 
 longest-log-requires : tie.Need-longest-log-requires
 longest-log-requires c κs = search needs
@@ -47,14 +47,14 @@ made : (c : tie.After-unpack-bytes)
     → let log = c .before .before in
     let a = log .before .before .before .before .before .before .args in
     Made unpack 32768 (length (a .output .now)) (a .list .now) (log .longest-log .result)
-    (c .unpack-bytes .last .1 .0) (log .before .capacity-of .result) (c .unpack-bytes .result)
+    (c .unpack-bytes .last .1 .0) (log .before .least .result) (c .unpack-bytes .result)
 made c =
     let log = c .before .before in
     let left = log .before .before in
     let test = left .before .is-whole in
     record {
       whole = sym (test .ensures) ∙ not-false (test .result) (left .if1 .left);
-      capacity = log .before .capacity-of .ensures;
+      capacity = log .before .least .ensures;
       long = log .longest-log .ensures;
       stores = c .unpack-bytes .ensures;
       kept = c .unpack-bytes .kept .1 .0;
@@ -91,7 +91,7 @@ nauvelppi-unpack-spec =
     is-whole-requires
     refused-requires
     returns
-    capacity-of-requires
+    least-requires
     longest-log-requires
     array-borrow-prefix-log
     slice-aggregate-unpack-bytes

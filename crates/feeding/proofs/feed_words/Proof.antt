@@ -4,8 +4,9 @@ use Prim.Native.Nat.{_-_}
 use native.Mathlib.Omega.{arith}
 use lib.ListN.{length}
 use borrow.Author.Needs.{needs}
+use Rattle.words.proofs.Over.{drop-next}
 use Rattle.engine.specs.Call.{machineOf, replyOf, wordReply}
-use Rattle.feeding.proofs.FeedLaws.{next-item, Feeding, none-fed, one-fed, one-refused, all-fed}
+use Rattle.feeding.proofs.FeedLaws.{Feeding, none-fed, one-fed, one-refused, all-fed}
 use Rattle.feeding.proofs.feed_words.Statement.{statement}
 use Rattle.feeding.proofs.feed_words.Tie as tie
 
@@ -39,7 +40,7 @@ returns : tie.Need-returns Inv-loop μ-loop
 returns c =
     let called = c .before .before .before .before .before .before in
     let turn = called .before .before .before .before in
-    one-refused wordReply (turn .before .loop .inv .0) _ (next-item _ _ 0 (turn .loop-test .taken))
+    one-refused wordReply (turn .before .loop .inv .0) _ (drop-next _ _ 0 (turn .loop-test .taken))
     (replyOf (called .word .result) _ _) (called .word .ensures .0) (λ z. omega (arith, c .if1 .taken))
 
 add-i : tie.Need-add-i Inv-loop μ-loop
@@ -54,7 +55,7 @@ loop-again : tie.Need-loop-again Inv-loop μ-loop
 loop-again c =
     let called = c .before .before .before .before .before .before in
     let turn = called .before .before .before .before in (
-      one-fed wordReply (turn .before .loop .inv .0) _ (next-item _ _ 0 (turn .loop-test .taken))
+      one-fed wordReply (turn .before .loop .inv .0) _ (drop-next _ _ 0 (turn .loop-test .taken))
           (replyOf (called .word .result) _ _) (called .word .ensures .0) (c .if1 .left),
       search needs,
       search needs,
