@@ -21,7 +21,7 @@ use Rattle.execute.proofs.Keeps.{execute-kept, long-enough-kept}
 use Rattle.engine.specs.Call.{exec, coreSound, machineOf}
 use Rattle.engine.proofs.Calls.{sound-core}
 use Rattle.equivalence.specs.EqualEnds.{transformOf, stacksOf, geometryOf, waitingOf, EqualEnds}
-use Rattle.equivalence.specs.Demand3.{Demand3Holds}
+use Rattle.equivalence.specs.Demand3.{EngineDemand3Holds}
 
 -- equal machines agree in every item
 pub all-equal : (a b : Machine (Buffered Core)) → a ≡ b → EqualEnds a b
@@ -60,38 +60,70 @@ all-equal a b e = rw e (record {
 -- records whose fields are equal
 same-pair : (a b : Pair) → a .position ≡ b .position → a .vector ≡ b .vector → a .level ≡ b .level → a ≡ b
 same-pair a b e1 e2 e3 =
-    let h : _≡_ {A = Pair} (record { position = a .position; vector = a .vector; level = a .level })
-    (record { position = b .position; vector = b .vector; level = b .level }) = cc (e1, e2, e3) in h
+    let whole : Pair → Pair = λ x. record { position = x .position; vector = x .vector; level = x .level } in
+    let h : whole a ≡ whole b = cc (e1, e2, e3) in
+    h
 
 same-single : (a b : Single) → a .matrix ≡ b .matrix → a .slot ≡ b .slot → a .level ≡ b .level → a ≡ b
 same-single a b e1 e2 e3 =
-    let h : _≡_ {A = Single} (record { matrix = a .matrix; slot = a .slot; level = a .level })
-    (record { matrix = b .matrix; slot = b .slot; level = b .level }) = cc (e1, e2, e3) in h
+    let whole : Single → Single = λ x. record { matrix = x .matrix; slot = x .slot; level = x .level } in
+    let h : whole a ≡ whole b = cc (e1, e2, e3) in
+    h
 
-same-transform : (a b : Transform) → a .pair ≡ b .pair → a .projection ≡ b .projection → a .texture ≡ b .texture → a .mode ≡ b .mode → a .error ≡ b .error → a ≡ b
+same-transform : (a b : Transform) → a .pair ≡ b .pair → a .projection ≡ b .projection → a .texture ≡ b .texture
+    → a .mode ≡ b .mode → a .error ≡ b .error → a ≡ b
 same-transform a b e1 e2 e3 e4 e5 =
-    let h : _≡_ {A = Transform} (record { pair = a .pair; projection = a .projection; texture = a .texture; mode = a .mode; error = a .error })
-    (record { pair = b .pair; projection = b .projection; texture = b .texture; mode = b .mode; error = b .error }) = cc (e1, e2, e3, e4, e5) in h
+    let whole : Transform → Transform = λ x. record {
+      pair = x .pair;
+      projection = x .projection;
+      texture = x .texture;
+      mode = x .mode;
+      error = x .error;
+    } in
+    let h : whole a ≡ whole b = cc (e1, e2, e3, e4, e5) in
+    h
 
 same-stacks : (a b : Stacks) → a .positions ≡ b .positions → a .vectors ≡ b .vectors → a ≡ b
 same-stacks a b e1 e2 =
-    let h : _≡_ {A = Stacks} (record { positions = a .positions; vectors = a .vectors })
-    (record { positions = b .positions; vectors = b .vectors }) = cc (e1, e2) in h
+    let whole : Stacks → Stacks = λ x. record { positions = x .positions; vectors = x .vectors } in
+    let h : whole a ≡ whole b = cc (e1, e2) in
+    h
 
-same-waiting : (a b : Waiting) → a .list ≡ b .list → a .first ≡ b .first → a .second ≡ b .second → a .third ≡ b .third → a .count ≡ b .count → a ≡ b
+same-waiting : (a b : Waiting) → a .list ≡ b .list → a .first ≡ b .first → a .second ≡ b .second → a .third ≡ b .third
+    → a .count ≡ b .count → a ≡ b
 same-waiting a b e1 e2 e3 e4 e5 =
-    let h : _≡_ {A = Waiting} (record { list = a .list; first = a .first; second = a .second; third = a .third; count = a .count })
-    (record { list = b .list; first = b .first; second = b .second; third = b .third; count = b .count }) = cc (e1, e2, e3, e4, e5) in h
+    let whole : Waiting → Waiting = λ x. record {
+      list = x .list;
+      first = x .first;
+      second = x .second;
+      third = x .third;
+      count = x .count;
+    } in
+    let h : whole a ≡ whole b = cc (e1, e2, e3, e4, e5) in
+    h
 
 same-counts : (a b : Counts) → a .vertices ≡ b .vertices → a .polygons ≡ b .polygons → a ≡ b
 same-counts a b e1 e2 =
-    let h : _≡_ {A = Counts} (record { vertices = a .vertices; polygons = a .polygons })
-    (record { vertices = b .vertices; polygons = b .polygons }) = cc (e1, e2) in h
+    let whole : Counts → Counts = λ x. record { vertices = x .vertices; polygons = x .polygons } in
+    let h : whole a ≡ whole b = cc (e1, e2) in
+    h
 
-same-geometry : (a b : Geometry) → a .colour ≡ b .colour → a .given ≡ b .given → a .attributes ≡ b .attributes → a .position ≡ b .position → a .waiting ≡ b .waiting → a .used ≡ b .used → a .rooms ≡ b .rooms → a .overflow ≡ b .overflow → a ≡ b
+same-geometry : (a b : Geometry) → a .colour ≡ b .colour → a .given ≡ b .given → a .attributes ≡ b .attributes
+    → a .position ≡ b .position → a .waiting ≡ b .waiting → a .used ≡ b .used → a .rooms ≡ b .rooms
+    → a .overflow ≡ b .overflow → a ≡ b
 same-geometry a b e1 e2 e3 e4 e5 e6 e7 e8 =
-    let h : _≡_ {A = Geometry} (record { colour = a .colour; given = a .given; attributes = a .attributes; position = a .position; waiting = a .waiting; used = a .used; rooms = a .rooms; overflow = a .overflow })
-    (record { colour = b .colour; given = b .given; attributes = b .attributes; position = b .position; waiting = b .waiting; used = b .used; rooms = b .rooms; overflow = b .overflow }) = cc (e1, e2, e3, e4, e5, e6, e7, e8) in h
+    let whole : Geometry → Geometry = λ x. record {
+      colour = x .colour;
+      given = x .given;
+      attributes = x .attributes;
+      position = x .position;
+      waiting = x .waiting;
+      used = x .used;
+      rooms = x .rooms;
+      overflow = x .overflow;
+    } in
+    let h : whole a ≡ whole b = cc (e1, e2, e3, e4, e5, e6, e7, e8) in
+    h
 
 -- engines with the same rooms that agree in every item are equal, and so are their buffers
 pub all-listed : (a b : Machine (Buffered Core)) → geometryOf a .rooms ≡ geometryOf b .rooms → EqualEnds a b
@@ -122,7 +154,7 @@ keeps c s w u =
     let k = execute-kept (c .byte) (c .parameters) s (u .is-sound) in
     record { is-sound = k .sound; is-long-enough = long-enough-kept s (exec c s) k (u .is-long-enough) }
 
-pub engine-demand3 : Demand3Holds
+pub engine-demand3 : EngineDemand3Holds
 unfolding soundStream
 engine-demand3 capacity log e vertices polygons accepted s =
     let m = machineOf e vertices polygons in

@@ -46,8 +46,8 @@ abbrev pub AllZero : List ℕ → Type 0
 AllZero [] = Unit {0}
 AllZero (n ∷ numbers) = (n ≡ 0) × AllZero numbers
 
--- Both sides of a log. `packed` is what a packer answered, whose output held `old` before and `output` after; s is where
--- the port writes start and t where the packed words do.
+-- Both sides of a log. `packed` is what a packer answered, whose output held `old` before and `output` after; s is
+-- where the port writes start and t where the packed words do.
 pub record BothSides (log : List ℕ) (packed : OutputAnswer) (old output : List ℕ) (s t : Lent) : Type 0 where
   pub stores : Stores (pack (length old) log) packed old output
   pub accepted : packed .number ≡ 0

@@ -24,9 +24,10 @@ pub record Start (e : Engine) (vertices : List ℤ) (polygons : List ℕ) : Type
   pub none-pending : isPending (pendingOf (e .stream)) ≡ false
   pub long-enough : buffersLong (buffered (e .core) vertices polygons) ≡ true
 
--- "Demand 3 is a single claim about the whole log": "every call answers number 0, the two ends are equal with no command
--- begun, and the packed length is the one computed from the log"
-pub record Demand3 (capacity : ℕ) (log : List ℕ) (e : Engine) (vertices : List ℤ) (polygons : List ℕ) : Type 0 where
+-- "Demand 3 is a single claim about the whole log": "every call answers number 0, the two ends are equal with no
+-- command begun, and the packed length is the one computed from the log"
+pub record EngineDemand3 (capacity : ℕ) (log : List ℕ) (e : Engine) (vertices : List ℤ) (polygons : List ℕ)
+    : Type 0 where
   -- "One side makes a port write call for each pair of the log, in order."
   pub writes-taken : AllTaken portReply (machineOf e vertices polygons) (writes log)
   -- "The other makes a word call for each packed word, in order."
@@ -36,7 +37,7 @@ pub record Demand3 (capacity : ℕ) (log : List ℕ) (e : Engine) (vertices : Li
       (after wordReply (machineOf e vertices polygons) (pack capacity log .words))
 
 -- "The packer accepts a log when it answers number 0; the packed words are then its output up to the length."
-abbrev pub Demand3Holds : Type 0
-Demand3Holds =
+abbrev pub EngineDemand3Holds : Type 0
+EngineDemand3Holds =
     (capacity : ℕ) (log : List ℕ) (e : Engine) (vertices : List ℤ) (polygons : List ℕ)
-    → pack capacity log .number ≡ 0 → Start e vertices polygons → Demand3 capacity log e vertices polygons
+    → pack capacity log .number ≡ 0 → Start e vertices polygons → EngineDemand3 capacity log e vertices polygons

@@ -1,5 +1,5 @@
-// Demand 3, stated in specs/Demand3.antt and specs/Calls.antt and proved in proofs/; and a function that runs both sides
-// of a log, so that the claim can be watched.
+// Demand 3, stated in specs/Demand3.antt and specs/Calls.antt and proved in proofs/; and a function that runs both
+// sides of a log, so that the claim can be watched.
 ghost use mathlib.Core.Path.{_≡_};
 ghost use Rattle.equivalence.specs.Demand3.{Start};
 ghost use Rattle.equivalence.specs.Calls.{lent};
@@ -30,8 +30,8 @@ fn none_fed(e: Engine) -> Fed
 }
 
 // Packs a log into `output` and runs both sides, each on an engine of its own: the port writes with the first two
-// buffers, the packed words with the second two. Where the log is accepted, the engine is sound with no command pending,
-// and the buffers are long enough and hold the same, nothing is refused and both ends are equal.
+// buffers, the packed words with the second two. Where the log is accepted, the engine is sound with no command
+// pending, and the buffers are long enough and hold the same, nothing is refused and both ends are equal.
 pub fn run_both(
     e: Engine,
     log: &[u32],

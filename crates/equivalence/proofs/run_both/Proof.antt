@@ -38,7 +38,9 @@ cast-count : tie.Need-cast-count
 cast-count c = search needs
 
 slice-reshare-prefix-feed-words : tie.Need-slice-reshare-prefix-feed-words
-slice-reshare-prefix-feed-words c = stored-length (c .before .before .before .before .before .before .before .before .before .before .before .pack .ensures)
+slice-reshare-prefix-feed-words c =
+    let fed = c .before .before .before .before in
+    stored-length (fed .before .before .before .before .before .before .before .pack .ensures)
 
 slice-aggregate-feed-words : tie.Need-slice-aggregate-feed-words
 slice-aggregate-feed-words c =
@@ -49,7 +51,9 @@ feed-words-requires : tie.Need-feed-words-requires
 feed-words-requires c κs = search needs
 
 same-length-2 : tie.Need-same-length-2
-same-length-2 c = c .before .before .before .before .before .before .before .before .before .before .before .before .before .before .before .before .before .before .pack .kept .1 .0
+same-length-2 c =
+    let fed = c .before .before .before .before .before .before .before .before .before .before .before in
+    fed .before .before .before .before .before .before .before .pack .kept .1 .0
 
 same-length-3 : tie.Need-same-length-3
 same-length-3 c = search needs

@@ -23,7 +23,13 @@ returns c =
     (omega (arith, writes-for-none _ z), rw z)
 
 loop-holds : tie.Need-loop-holds Inv-loop μ-loop
-loop-holds c = record { within = c .before .pre .0; room = c .before .pre .1; most = omega arith; same = refl; buffer = refl }
+loop-holds c = record {
+  within = c .before .pre .0;
+  room = c .before .pre .1;
+  most = omega arith;
+  same = refl;
+  buffer = refl;
+}
 
 add-buffer : tie.Need-add-buffer Inv-loop μ-loop
 add-buffer c = search needs
