@@ -50,6 +50,7 @@ struct Places {
     to: usize,
 }
 
+// A refusal at a write.
 fn not_found(number: u32, place: usize) -> Found
     requires { ⌜ place < 4096 ⌝ }
     ensures { λ r. ⌜ r ≡ record { number = number; place = place; count = 0 } ⌝ }
@@ -61,7 +62,8 @@ fn not_found(number: u32, place: usize) -> Found
     }
 }
 
-fn command_of(count: usize) -> Found
+// A command, all of whose parameters are written.
+fn complete_command(count: usize) -> Found
     ensures { λ r. ⌜ r ≡ record { number = 0; place = 0; count = count } ⌝ }
 {
     Found {
@@ -95,7 +97,7 @@ fn all_written(table: &[u8; 256], log: &[u32], pairs: usize, i: usize, count: us
         }
         j += 1;
     }
-    command_of(count)
+    complete_command(count)
 }
 
 // The command that begins at the i-th write. "first bad pair (5 before 6), 8"
@@ -109,7 +111,7 @@ fn next_command(table: &[u8; 256], log: &[u32], pairs: usize, i: usize) -> Found
         Count::Takes(n) => {
             // Most logs have many of these, and where they are told apart here, the next write is read sooner.
             if n == 0 {
-                return command_of(0);
+                return complete_command(0);
             }
             all_written(table, log, pairs, i, n as usize)
         }
@@ -117,6 +119,7 @@ fn next_command(table: &[u8; 256], log: &[u32], pairs: usize, i: usize) -> Found
     }
 }
 
+// A refusal at one of the group's writes.
 fn not_a_group(number: u32, place: u32) -> Group
     ensures { λ r. ⌜ r ≡ record { number = number; place = place; next = 0; size = 0 } ⌝ }
 {

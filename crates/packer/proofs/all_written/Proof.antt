@@ -83,11 +83,11 @@ loop-again c =
     walk-more (c .before .before .before .before .loop .inv) (c .before .before .before .loop-test .taken)
     (c .before .before .if1 .left) (c .if2 .left)
 
-command-of-requires : tie.Need-command-of-requires Inv-loop μ-loop
-command-of-requires c κs = search needs
+complete-command-requires : tie.Need-complete-command-requires Inv-loop μ-loop
+complete-command-requires c κs = search needs
 
 returns-4 : tie.Need-returns-4 Inv-loop μ-loop
-returns-4 c = is-found (c .command-of .ensures) (walk-end (c .before .before .loop .inv) (c .before .loop-test .left))
+returns-4 c = is-found (c .complete-command .ensures) (walk-end (c .before .before .loop .inv) (c .before .loop-test .left))
 
 pub all-written-spec : {M : Type 1} → statement M
 all-written-spec =
@@ -113,5 +113,5 @@ all-written-spec =
     add-j
     loop-less
     loop-again
-    command-of-requires
+    complete-command-requires
     returns-4)

@@ -32,15 +32,15 @@ at-port c =
     let t = port-takes _ _ (sym (called .ensures) ∙ c .before .n .given .1) in
     record { is-command = t .0; counted = t .1 }
 
-command-of-requires : tie.Need-command-of-requires
-command-of-requires c κs = search needs
+complete-command-requires : tie.Need-complete-command-requires
+complete-command-requires c κs = search needs
 
 returns : tie.Need-returns
 returns c =
     let told = c .before .before in
     let a = told .before .before .before .before .before .before in
     let p = rw (c .before .if1 .taken) at (at-port told) in
-    is-found (c .command-of .ensures)
+    is-found (c .complete-command .ensures)
     (walk-end (walk-start (a .pre .1 .0) (a .args .i) (a .pre .1 .1) 0 p) (omega arith))
 
 cast-all-written : tie.Need-cast-all-written
@@ -78,7 +78,7 @@ next-command-spec =
     shared-slice-read-port-parameters-in
     port-parameters-in-requires
     enum-known-n
-    command-of-requires
+    complete-command-requires
     returns
     cast-all-written
     all-written-requires
