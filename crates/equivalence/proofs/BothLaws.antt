@@ -1,6 +1,6 @@
 -- Demand 3 of a function that runs both sides of a log. Assumes nothing.
 use mathlib.Core.List.{List}
-use mathlib.Core.Path.{_≡_, sym, ap, _∙_}
+use mathlib.Core.Path.{_≡_, refl, sym, ap, _∙_}
 use Prim.Native.Nat.{ℕ}
 use lib.IntN.{ℤ}
 use lib.ListN.{length, take}
@@ -14,12 +14,13 @@ use Rattle.state.specs.declared.Core.{Core}
 use Rattle.state.specs.declared.Engine.{Engine}
 use Rattle.polygons.specs.Buffers.{Buffered}
 use Rattle.engine.specs.Call.{machineOf, wordReply, portReply}
+use Rattle.feeding.specs.declared.Fed.{Fed as FedAnswer}
 use Rattle.feeding.specs.Feed.{Fed, fed, feed, fedOf}
 use Rattle.feeding.proofs.FeedLaws.{feed-all}
 use Rattle.equivalence.specs.declared.BothEnds.{BothEnds}
 use Rattle.equivalence.specs.Demand3.{Start}
 use Rattle.equivalence.specs.Calls.{lent}
-use Rattle.equivalence.specs.Both.{Ran, BothAgree}
+use Rattle.equivalence.specs.Both.{NotRun, Ran, BothAgree}
 use Rattle.equivalence.proofs.Agree.{engine-demand3}
 
 -- the two sides of an accepted log, run
@@ -70,3 +71,9 @@ module _ {log : List ℕ} {r : BothEnds} {old output : List ℕ} {e : Engine} {v
     },
     λ z s p q. agree s p q,
   )
+
+-- a side of a refused log
+pub not-run : {f : FedAnswer} {e : Engine} (vertices : List ℤ) (polygons : List ℕ)
+    → f ≡ record { taken = 0; number = 0; engine = e }
+    → NotRun f (lent e vertices polygons) (lent (f .engine) vertices polygons)
+not-run vertices polygons h = rw h (record { taken = refl; number = refl; same = refl })

@@ -7,14 +7,20 @@ use Rattle.stream.specs.Read.{writes}
 use Rattle.stream.specs.Output.{Stores}
 use Rattle.stream.specs.Pack.{pack}
 use Rattle.engine.specs.Call.{wordReply, portReply}
-use Rattle.feeding.specs.Feed.{fed, feed, fedOf}
+use Rattle.feeding.specs.declared.Fed.{Fed as FedAnswer}
+use Rattle.feeding.specs.Feed.{feed, fedOf}
 use Rattle.equivalence.specs.declared.BothEnds.{BothEnds}
 use Rattle.equivalence.specs.EqualEnds.{SidesAgree}
 use Rattle.equivalence.specs.Calls.{Lent, machineAt}
 
--- The two sides of a log, as far as they were run: a is where the port writes start and b what they leave, c where the
--- packed words start and d what they leave; the output held `old` before, and `output` after. A refused log runs
--- neither side.
+-- nothing was fed: the engine's record comes back as it was given, and the buffers hold what they held
+pub record NotRun (f : FedAnswer) (before after : Lent) : Type 0 where
+  pub taken : f .taken ≡ 0
+  pub number : f .number ≡ 0
+  pub same : after ≡ before
+
+-- The two sides of a log: a is where the port writes start and b what they leave, c where the packed words start and d
+-- what they leave; the output held `old` before, and `output` after. A refused log runs neither side.
 pub record Ran (log : List ℕ) (r : BothEnds) (old output : List ℕ) (a b c d : Lent) : Type 0 where
   pub stores : Stores (pack (length old) log) (r .packed) old output
   pub writes-ran : r .packed .number ≡ 0
@@ -22,9 +28,7 @@ pub record Ran (log : List ℕ) (r : BothEnds) (old output : List ℕ) (a b c d 
   pub words-ran : r .packed .number ≡ 0
       → fedOf (r .words) (d .vertices) (d .polygons)
       ≡ feed wordReply (machineAt c) (take (r .packed .length) output)
-  pub refused : (r .packed .number ≡ 0 → ⊥)
-      → (fedOf (r .writes) (b .vertices) (b .polygons) ≡ fed 0 0 (machineAt a))
-      × (fedOf (r .words) (d .vertices) (d .polygons) ≡ fed 0 0 (machineAt c))
+  pub refused : (r .packed .number ≡ 0 → ⊥) → NotRun (r .writes) a b × NotRun (r .words) c d
 
 -- Demand 3, of what it answers: every write and every word was taken, and the two ends agree
 pub record BothAgree (log : List ℕ) (r : BothEnds) (b d : Lent) : Type 0 where

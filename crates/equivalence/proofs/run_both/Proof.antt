@@ -3,7 +3,7 @@ use mathlib.Core.Path.{sym}
 use lib.Seq.{length-take-le}
 use borrow.Author.Needs.{needs}
 use Rattle.stream.proofs.OutputLaws.{stored-length}
-use Rattle.equivalence.proofs.BothLaws.{both-ran}
+use Rattle.equivalence.proofs.BothLaws.{not-run, both-ran}
 use Rattle.equivalence.proofs.run_both.Statement.{statement}
 use Rattle.equivalence.proofs.run_both.Tie as tie
 
@@ -26,7 +26,7 @@ returns c =
         stores = c .before .before .before .before .before .before .pack .ensures;
         writes-ran = λ z. absurd (refused z);
         words-ran = λ z. absurd (refused z);
-        refused = λ _. (rw (c .before .none-fed .ensures), rw (c .none-fed2 .ensures));
+        refused = λ _. (not-run _ _ (c .before .none-fed .ensures), not-run _ _ (c .none-fed2 .ensures));
       },
       λ z s p q. absurd (refused z),
     )
