@@ -109,7 +109,7 @@ fn next_command(table: &[u8; 256], log: &[u32], pairs: usize, i: usize) -> Found
 {
     match port_parameters_in(table, log[2 * i]) {
         Count::Takes(n) => {
-            // Most logs have many of these, and where they are told apart here, the next write is read sooner.
+            // Told apart here, the next write can be read before its place is summed up.
             if n == 0 {
                 return complete_command(0);
             }
