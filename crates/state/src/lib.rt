@@ -17,6 +17,7 @@ use commands::parameter_table;
 use matrix::Matrix;
 
 // Position and vector: the current matrices, and the level that their two stacks share.
+#[repr(C)]
 pub struct Pair {
     pub position: [i32; 16],
     pub vector: [i32; 16],
@@ -24,6 +25,7 @@ pub struct Pair {
 }
 
 // Projection or texture: the current matrix, and its stack of one slot.
+#[repr(C)]
 pub struct Single {
     pub matrix: [i32; 16],
     pub slot: [i32; 16],
@@ -31,6 +33,7 @@ pub struct Single {
 }
 
 // The matrices without the two long stacks. `mode` is what 10h set, `error` the error flag of the stacks.
+#[repr(C)]
 pub struct Transform {
     pub pair: Pair,
     pub projection: Single,
@@ -41,12 +44,14 @@ pub struct Transform {
 
 // The stacks of position and vector, 31 slots each. Slot k is the sixteen numbers from 16 * k on. Only the stack
 // commands touch them.
+#[repr(C)]
 pub struct Stacks {
     pub positions: [i32; 496],
     pub vectors: [i32; 496],
 }
 
 // The vertex position.
+#[repr(C)]
 pub struct Coordinates {
     pub x: i16,
     pub y: i16,
@@ -80,6 +85,7 @@ pub struct Waiting {
 }
 
 // Numbers of vertices and polygons.
+#[repr(C)]
 pub struct Counts {
     pub vertices: usize,
     pub polygons: usize,
@@ -114,6 +120,7 @@ pub struct Core {
 // above its last command are free. `held` has the parameters so far of that command, or of the port command that is
 // pending: the first `count` of 32. Those past the count are free: no call reads what another left there. `dummy`: the
 // dummy word is due; `port`: the port command that is pending, 0 for none.
+#[repr(C)]
 pub struct Stream {
     pub queue: u32,
     pub held: [u32; 32],
