@@ -1,10 +1,10 @@
 // Reads a log from standard input, little-endian words, packs it, and runs both sides of demand 3 from a fresh engine.
 // Prints the packed length and, for each side, the number answered, how many were taken, the used counts and the status
 // word; or the packer's refusal. That both sides are equal is proved in the crate equivalence; here it can be watched.
-ghost use mathlib.Core.Path.{_≡_};
-ghost use lib.ListN.{length};
 use equivalence::run_both;
 use feeding::Fed;
+use feeding::polygon_buffer;
+use feeding::vertex_buffer;
 use libc::STDIN_FILENO;
 use printing::print_hex;
 use printing::print_number;
@@ -16,20 +16,6 @@ use stream::words_of;
 
 // The longest log, in bytes.
 const LONGEST: usize = 32768;
-
-// A buffer for 6,144 vertices.
-fn vertex_buffer() -> [i32; 30720]
-    ensures { λ r. ⌜ length r ≡ 30720 ⌝ }
-{
-    [0; 30720]
-}
-
-// A buffer for 2,048 polygons.
-fn polygon_buffer() -> [u32; 6144]
-    ensures { λ r. ⌜ length r ≡ 6144 ⌝ }
-{
-    [0; 6144]
-}
 
 fn print_refused(number: u32, place: u32) {
     print_number(b"refused ", number as u64);

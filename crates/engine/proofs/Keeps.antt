@@ -5,11 +5,11 @@ use mathlib.Core.Path.{_≡_, refl, sym, subst}
 use Prim.Native.Nat.{ℕ}
 use lib.IntN.{ℤ}
 use lib.ListN.{length}
-use Rattle.stream.specs.Pending.{Pending, soundPending}
+use Rattle.stream.specs.Pending.{soundPending}
 use Rattle.stream.specs.Command.{Command, Complete, Write}
-use Rattle.stream.specs.Step.{Step, wordStep, portStep}
-use Rattle.stream.specs.Call.{Reply, callBy}
-use Rattle.stream.proofs.StepLaws.{KeepsSound, word-keeps, port-keeps}
+use Rattle.stream.specs.Step.{wordStep, portStep}
+use Rattle.stream.specs.Call.{Machine, Reply}
+use Rattle.stream.proofs.StepLaws.{word-keeps, port-keeps}
 use Rattle.stream.proofs.CallLaws.{Keeping, call-keeps}
 use Rattle.state.specs.declared.Core.{Core}
 use Rattle.state.specs.declared.Engine.{Engine}
@@ -31,42 +31,52 @@ pub record EngineKept (e : Engine) (vertices : List ℤ) (polygons : List ℕ) (
   pub vertices-length : length vs ≡ length vertices
   pub polygons-length : length ps ≡ length polygons
 
-module _ (e : Engine) (vertices : List ℤ) (polygons : List ℕ) (h : sound e ≡ true) where
-  start : Buffered Core
+module _ (e : Engine) (vertices : List ℤ) (polygons : List ℕ) where
+  abbrev start : Buffered Core
   start = buffered (e .core) vertices polygons
 
-  -- what a command keeps from where the call began
+  -- what calls keep from where the first began, whatever they answer
+  abbrev pub Kept : Machine (Buffered Core) → Type 0
+  Kept = Keeping (CoreKept start)
+
   more : (c : Command) (s : Buffered Core) → Complete c → CoreKept start s → CoreKept start (exec c s)
   more c s w k = core-kept-more start s (exec c s) k (execute-kept (c .byte) (c .parameters) s (k .sound))
 
-  kept-by : {A : Type 0} (step : Pending → A → Step)
-      → ((p : Pending) (a : A) → soundPending p ≡ true → KeepsSound (step p a)) → (a : A)
-      → (r : Answer) (vs : List ℤ) (ps : List ℕ)
-      → replyOf r vs ps ≡ callBy exec coreSound buffersLong step (machineOf e vertices polygons) a
-      → EngineKept e vertices polygons (r .engine) vs ps
-  unfolding start sound soundStream
-  kept-by step step-keeps a r vs ps told =
-      let m = machineOf e vertices polygons in
-      let nothing : CoreKept start start =
-      record { sound = sound-core e h; rooms = refl; vertices = refl; polygons = refl } in
-      let k : Keeping (CoreKept start) (machineOf (r .engine) vs ps) =
-      subst (λ (x : Reply (Buffered Core)). Keeping (CoreKept start) (x .left)) (sym told)
-      (call-keeps exec (CoreKept start) more coreSound buffersLong step step-keeps m a
-      (nothing, sound-parts e h .stream)) in
+  pub kept-at-first : sound e ≡ true → Kept (machineOf e vertices polygons)
+  unfolding soundStream
+  kept-at-first h =
+      (record { sound = sound-core e h; rooms = refl; vertices = refl; polygons = refl }, sound-parts e h .stream)
+
+  pub kept-by-word : (m : Machine (Buffered Core)) (w : ℕ) → Kept m → Kept (wordReply m w .left)
+  kept-by-word = call-keeps exec (CoreKept start) more coreSound buffersLong wordStep word-keeps
+
+  pub kept-by-port : (m : Machine (Buffered Core)) (w : Write) → Kept m → Kept (portReply m w .left)
+  kept-by-port = call-keeps exec (CoreKept start) more coreSound buffersLong portStep port-keeps
+
+  -- an engine and its buffers, from what they stand for
+  pub engine-kept : (f : Engine) (vs : List ℤ) (ps : List ℕ) → Kept (machineOf f vs ps)
+      → EngineKept e vertices polygons f vs ps
+  unfolding sound soundStream
+  engine-kept f vs ps k =
       record {
-        is-sound = and-eq-true-iff (soundCore (r .engine .core)) (soundPending (pendingOf (r .engine .stream))) .1
-            (k .0 .sound, k .1);
+        is-sound = and-eq-true-iff (soundCore (f .core)) (soundPending (pendingOf (f .stream))) .1 (k .0 .sound, k .1);
         rooms = k .0 .rooms;
         vertices-length = k .0 .vertices;
         polygons-length = k .0 .polygons;
       }
 
-  -- an answer that meets the word call's contract
-  pub word-kept : (w : ℕ) (r : Answer) (vs : List ℤ) (ps : List ℕ)
-      → replyOf r vs ps ≡ wordReply (machineOf e vertices polygons) w → EngineKept e vertices polygons (r .engine) vs ps
-  word-kept w = kept-by wordStep word-keeps w
+  module _ (h : sound e ≡ true) (r : Answer) (vs : List ℤ) (ps : List ℕ) where
+    from-reply : {x : Reply (Buffered Core)} → Kept (x .left) → replyOf r vs ps ≡ x
+        → EngineKept e vertices polygons (r .engine) vs ps
+    from-reply k told =
+        engine-kept (r .engine) vs ps (subst (λ (y : Reply (Buffered Core)). Kept (y .left)) (sym told) k)
 
-  -- and one that meets the port write call's
-  pub port-kept : (w : Write) (r : Answer) (vs : List ℤ) (ps : List ℕ)
-      → replyOf r vs ps ≡ portReply (machineOf e vertices polygons) w → EngineKept e vertices polygons (r .engine) vs ps
-  port-kept w = kept-by portStep port-keeps w
+    -- an answer that meets the word call's contract
+    pub word-kept : (w : ℕ) → replyOf r vs ps ≡ wordReply (machineOf e vertices polygons) w
+        → EngineKept e vertices polygons (r .engine) vs ps
+    word-kept w = from-reply (kept-by-word (machineOf e vertices polygons) w (kept-at-first h))
+
+    -- and one that meets the port write call's
+    pub port-kept : (w : Write) → replyOf r vs ps ≡ portReply (machineOf e vertices polygons) w
+        → EngineKept e vertices polygons (r .engine) vs ps
+    port-kept w = from-reply (kept-by-port (machineOf e vertices polygons) w (kept-at-first h))

@@ -1,5 +1,6 @@
 // Many packed words, or many port writes, fed to the engine one by one. Document 01, "The two sides of demand 3".
 ghost use mathlib.Core.Path.{_≡_};
+ghost use lib.ListN.{length};
 ghost use Rattle.stream.specs.Read.{writes};
 ghost use Rattle.engine.specs.Call.{machineOf, wordReply, portReply};
 ghost use Rattle.feeding.specs.Feed.{feed, fedOf};
@@ -68,4 +69,18 @@ pub fn feed_writes(e: Engine, log: &[u32], vertices: &mut [i32], polygons: &mut 
         number: 0,
         engine: n,
     }
+}
+
+// A buffer for the largest room of vertices, 6,144. What it holds is free.
+pub fn vertex_buffer() -> [i32; 30720]
+    ensures { λ r. ⌜ length r ≡ 30720 ⌝ }
+{
+    [0; 30720]
+}
+
+// A buffer for the largest room of polygons, 2,048. What it holds is free.
+pub fn polygon_buffer() -> [u32; 6144]
+    ensures { λ r. ⌜ length r ≡ 6144 ⌝ }
+{
+    [0; 6144]
 }

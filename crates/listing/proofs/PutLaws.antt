@@ -1,11 +1,13 @@
 -- Text put into a buffer piece by piece. Assumes nothing.
 use mathlib.Core.List.{List, [], _∷_, _++_}
-use mathlib.Core.Path.{_≡_, refl, sym, _∙_}
-use Prim.Native.Nat.{ℕ, _+_, _<_}
+use mathlib.Core.Path.{_≡_, refl, sym, ap, _∙_}
+use Prim.Native.Nat.{ℕ, _+_, _≤_, _<_}
 use native.Mathlib.Omega.{arith}
 use lib.ListN.{length, getD, take, set, length-append}
-use lib.Seq.{length-sets}
-use Rattle.words.proofs.Over.{sets-append, take-next}
+use lib.Seq.{length-sets, length-take-le}
+use Rattle.io.specs.Counts.{Counts}
+use Rattle.words.specs.Words.{over}
+use Rattle.words.proofs.Over.{sets-append, sets-over, take-next}
 use Rattle.listing.specs.Buffer.{Puts}
 
 -- a put keeps the buffer's length
@@ -30,3 +32,12 @@ puts-next l i at {old} {text} p h =
       text-is = refl;
     } in
     rw (take-next l i 0 h) (puts-both p q)
+
+-- the report, put at the start of a buffer that is long enough: its length, and what the buffer holds
+pub reported : {new report : List ℕ} {next : ℕ} {old text : List ℕ} → new ≡ report → Puts new 0 next old text
+    → length new ≤ length old → (next ≡ length report) × ((text ≡ over report old) × Counts next text)
+reported {new} {report} {next} {old} {text} e p h =
+    let m : next ≤ length text = omega (arith, puts-kept p, p .next-is) in
+    let n : next ≡ length report = omega (arith, p .next-is, ap length e) in
+    let t : text ≡ over report old = p .text-is ∙ rw e (sets-over old report (omega (arith, ap length e))) in
+    (n, (t, (m, sym (length-take-le next text m))))

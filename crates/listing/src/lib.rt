@@ -11,7 +11,7 @@ ghost use Rattle.listing.specs.Buffer.{Puts};
 // for the crates above, which have a buffer that is long enough.
 
 // Some bytes.
-fn put_bytes(text: &mut [u8], at: usize, bytes: &[u8]) -> usize
+pub fn put_bytes(text: &mut [u8], at: usize, bytes: &[u8]) -> usize
     requires { ⌜ at + length (now bytes) ≤ length (now text) ⌝ }
     ensures { λ r. ⌜ Puts (now (bytes .entry)) at r (now (text .entry)) (now (text .exit)) ⌝ }
 {
@@ -24,7 +24,7 @@ fn put_bytes(text: &mut [u8], at: usize, bytes: &[u8]) -> usize
 }
 
 // A number in decimal.
-fn put_decimal(text: &mut [u8], at: usize, n: u32) -> usize
+pub fn put_decimal(text: &mut [u8], at: usize, n: u32) -> usize
     requires { ⌜ at + 10 ≤ length (now text) ⌝ }
     ensures { λ r. ⌜ Puts (decimal n) at r (now (text .entry)) (now (text .exit)) ⌝ }
 {
@@ -34,7 +34,7 @@ fn put_decimal(text: &mut [u8], at: usize, n: u32) -> usize
 }
 
 // A number as eight hex digits.
-fn put_hex(text: &mut [u8], at: usize, n: u32) -> usize
+pub fn put_hex(text: &mut [u8], at: usize, n: u32) -> usize
     requires { ⌜ at + 8 ≤ length (now text) ⌝ }
     ensures { λ r. ⌜ Puts (hex8 n) at r (now (text .entry)) (now (text .exit)) ⌝ }
 {
@@ -44,7 +44,7 @@ fn put_hex(text: &mut [u8], at: usize, n: u32) -> usize
 }
 
 // A line of a name, with the space behind it, and a number.
-fn put_number_line(text: &mut [u8], at: usize, name: &[u8], n: u32) -> usize
+pub fn put_number_line(text: &mut [u8], at: usize, name: &[u8], n: u32) -> usize
     requires { ⌜ at + length (now name) + 11 ≤ length (now text) ⌝ }
     ensures { λ r. ⌜ Puts (numberLine (now (name .entry)) n) at r (now (text .entry)) (now (text .exit)) ⌝ }
 {
@@ -90,7 +90,7 @@ pub fn put_ports(text: &mut [u8], at: usize, log: &[u32]) -> usize
 }
 
 // A line for a word.
-fn put_word_line(text: &mut [u8], at: usize, word: u32) -> usize
+pub fn put_word_line(text: &mut [u8], at: usize, word: u32) -> usize
     requires { ⌜ at + 9 ≤ length (now text) ⌝ }
     ensures { λ r. ⌜ Puts (wordLine word) at r (now (text .entry)) (now (text .exit)) ⌝ }
 {

@@ -6,28 +6,16 @@ use native.Mathlib.Omega.{arith}
 use lib.ListN.{length, take, drop, length-append, length-drop}
 use lib.Seq.{length-take-le}
 use borrow.Author.Tests.{eq-eqb, ne-eqb}
-use Rattle.io.specs.Counts.{Counts}
 use Rattle.words.specs.Words.{over}
-use Rattle.words.proofs.Over.{sets-over, take-over}
+use Rattle.words.proofs.Over.{take-over}
 use Rattle.stream.specs.declared.OutputAnswer.{OutputAnswer}
 use Rattle.stream.specs.Read.{writes}
 use Rattle.stream.specs.Output.{Output, onBytes, Stores}
 use Rattle.stream.proofs.UnpackLaws.{length-writes}
 use Rattle.listing.specs.Text.{wordsText, refusedLine}
-use Rattle.listing.specs.Buffer.{Puts}
-use Rattle.listing.proofs.PutLaws.{puts-kept}
 use Rattle.listing.proofs.LineLaws.{length-portsText, length-wordsText}
 use Rattle.reports.specs.Report.{reportBy}
 use Rattle.reports.specs.Unpack.{logText}
-
--- the report, put at the start of a buffer that is long enough: its length, and what the buffer holds
-pub reported : {new report : List ℕ} {next : ℕ} {old text : List ℕ} → new ≡ report → Puts new 0 next old text
-    → length new ≤ length old → (next ≡ length report) × ((text ≡ over report old) × Counts next text)
-reported {new} {report} {next} {old} {text} e p h =
-    let m : next ≤ length text = omega (arith, puts-kept p, p .next-is) in
-    let n : next ≡ length report = omega (arith, p .next-is, ap length e) in
-    let t : text ≡ over report old = p .text-is ∙ rw e (sets-over old report (omega (arith, ap length e))) in
-    (n, (t, (m, sym (length-take-le next text m))))
 
 -- a log of at most 16,384 port writes fits the report's buffer
 pub log-text-fits : (log : List ℕ) → length log ≤ 32768 → length (logText log) ≤ 294929

@@ -221,8 +221,8 @@ fn port_parameter(table: &[u8; 256], s: Stream, c: u8, value: u32) -> Outcome
     port_completed(c, held)
 }
 
-// A packed word has commands or its dummy to come.
-fn is_packed_pending(table: &[u8; 256], s: Stream) -> bool
+// A packed word has commands or its dummy to come. For the crates above this one: number 1 does not fall.
+pub fn is_packed_pending(table: &[u8; 256], s: Stream) -> bool
     requires { ⌜ now table ≡ parameterTable ⌝ }
     requires { ⌜ soundStream s ≡ true ⌝ }
     ensures { λ r. ⌜ r ≡ packedPending (pendingOf s) ⌝ }

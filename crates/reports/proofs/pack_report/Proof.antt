@@ -5,9 +5,10 @@ use lib.ListN.{take}
 use borrow.Author.Needs.{needs}
 use Rattle.stream.specs.Pack.{pack}
 use Rattle.listing.specs.Text.{wordsText}
+use Rattle.listing.proofs.PutLaws.{reported}
 use Rattle.listing.proofs.LineLaws.{length-refusedLine}
 use Rattle.reports.specs.Pack.{wordsReport, packReport}
-use Rattle.reports.proofs.ReportLaws.{reported, words-text-fits, Answered, answered}
+use Rattle.reports.proofs.ReportLaws.{words-text-fits, Answered, answered}
 use Rattle.reports.proofs.pack_report.Statement.{statement}
 use Rattle.reports.proofs.pack_report.Tie as tie
 

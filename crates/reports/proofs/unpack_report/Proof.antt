@@ -4,9 +4,10 @@ use native.Mathlib.Omega.{arith}
 use lib.ListN.{take}
 use borrow.Author.Needs.{needs}
 use Rattle.stream.specs.Unpack.{unpack}
+use Rattle.listing.proofs.PutLaws.{reported}
 use Rattle.listing.proofs.LineLaws.{length-refusedLine}
 use Rattle.reports.specs.Unpack.{logText, logReport, unpackReport}
-use Rattle.reports.proofs.ReportLaws.{reported, log-text-fits, Answered, answered}
+use Rattle.reports.proofs.ReportLaws.{log-text-fits, Answered, answered}
 use Rattle.reports.proofs.unpack_report.Statement.{statement}
 use Rattle.reports.proofs.unpack_report.Tie as tie
 

@@ -1,0 +1,522 @@
+/* Calls the engine of bindings/c/nauvelppi.h: a list word by word, the same commands as port writes, and each refusal.
+ * What must come out is worked out by hand from the rules and stands here as numbers. Prints how many checks passed; a
+ * check that fails is a non-zero exit. */
+#include <stdio.h>
+#include <stdlib.h>
+#include <string.h>
+
+#include "../../bindings/c/nauvelppi.h"
+
+_Static_assert(sizeof(nauvelppi_pair) == 136 && sizeof(nauvelppi_single) == 136, "matrices and a level");
+_Static_assert(offsetof(nauvelppi_transform, mode) == 408 && sizeof(nauvelppi_transform) == 416, "transform");
+_Static_assert(offsetof(nauvelppi_waiting, count) == 64 && sizeof(nauvelppi_waiting) == 72, "waiting");
+_Static_assert(offsetof(nauvelppi_geometry, waiting) == 24 && offsetof(nauvelppi_geometry, used) == 96, "geometry");
+_Static_assert(offsetof(nauvelppi_geometry, overflow) == 128 && sizeof(nauvelppi_geometry) == 136, "geometry");
+_Static_assert(offsetof(nauvelppi_stream, count) == 136 && offsetof(nauvelppi_stream, port) == 145, "stream");
+_Static_assert(offsetof(nauvelppi_engine, geometry) == 416 && offsetof(nauvelppi_engine, stacks) == 552, "engine");
+_Static_assert(offsetof(nauvelppi_engine, stream) == 4520 && sizeof(nauvelppi_engine) == 4672, "engine");
+_Static_assert(offsetof(nauvelppi_engine_answer, engine) == 8 && sizeof(nauvelppi_engine_answer) == 4680, "answer");
+
+/* The rooms are what the list below fills, to the last vertex and polygon; the buffers have one more of each. */
+enum { VERTICES = 10, POLYGONS = 3, VERTEX_NUMBERS = 5 * (VERTICES + 1), POLYGON_NUMBERS = 3 * (POLYGONS + 1) };
+
+#define COUNT(a) (sizeof(a) / sizeof((a)[0]))
+#define PORT(byte) (0x04000400u + 4u * (byte))
+
+static unsigned passed;
+
+static void check(int holds, const char *name, const char *what)
+{
+    if (!holds) {
+        printf("engine: %s: %s\n", name, what);
+        exit(1);
+    }
+    passed++;
+}
+
+static int32_t vertices[VERTEX_NUMBERS], vertices_before[VERTEX_NUMBERS];
+static uint32_t polygons[POLYGON_NUMBERS], polygons_before[POLYGON_NUMBERS];
+
+static int32_t vertex_filler(size_t i)
+{
+    return (int32_t)(7 * i) - 100;
+}
+
+static uint32_t polygon_filler(size_t i)
+{
+    return 0xc0de0000u + (uint32_t)i;
+}
+
+static void fill_buffers(void)
+{
+    for (size_t i = 0; i < VERTEX_NUMBERS; i++)
+        vertices[i] = vertex_filler(i);
+    for (size_t i = 0; i < POLYGON_NUMBERS; i++)
+        polygons[i] = polygon_filler(i);
+}
+
+/* ---- Equal engines, member by member: padding has no value */
+
+#define SAME(member) (a->member == b->member)
+#define SAME_NUMBERS(member) (memcmp(a->member, b->member, sizeof(a->member)) == 0)
+
+static int same_transform(const nauvelppi_transform *a, const nauvelppi_transform *b)
+{
+    return SAME_NUMBERS(pair.position) && SAME_NUMBERS(pair.vector) && SAME(pair.level)
+        && SAME_NUMBERS(projection.matrix) && SAME_NUMBERS(projection.slot) && SAME(projection.level)
+        && SAME_NUMBERS(texture.matrix) && SAME_NUMBERS(texture.slot) && SAME(texture.level) && SAME(mode)
+        && SAME(error);
+}
+
+/* All but the vertices that wait. */
+static int same_geometry(const nauvelppi_geometry *a, const nauvelppi_geometry *b)
+{
+    return SAME(colour) && SAME(given) && SAME(attributes) && SAME(position.x) && SAME(position.y)
+        && SAME(position.z) && SAME(waiting.list) && SAME(waiting.count) && SAME(used.vertices)
+        && SAME(used.polygons) && SAME(rooms.vertices) && SAME(rooms.polygons) && SAME(overflow);
+}
+
+static int same_waiting(const nauvelppi_waiting *a, const nauvelppi_waiting *b, size_t count)
+{
+    return (count < 1 || SAME_NUMBERS(first)) && (count < 2 || SAME_NUMBERS(second))
+        && (count < 3 || SAME_NUMBERS(third));
+}
+
+static int same_stacks(const nauvelppi_stacks *a, const nauvelppi_stacks *b)
+{
+    return SAME_NUMBERS(positions) && SAME_NUMBERS(vectors);
+}
+
+static int same_stream(const nauvelppi_stream *a, const nauvelppi_stream *b)
+{
+    return SAME(queue) && SAME_NUMBERS(held) && SAME(count) && SAME(dummy) && SAME(port);
+}
+
+/* Every number and flag, the free ones too. */
+static int same_cells(const nauvelppi_engine *a, const nauvelppi_engine *b)
+{
+    return same_transform(&a->transform, &b->transform) && same_geometry(&a->geometry, &b->geometry)
+        && same_waiting(&a->geometry.waiting, &b->geometry.waiting, 3) && same_stacks(&a->stacks, &b->stacks)
+        && same_stream(&a->stream, &b->stream);
+}
+
+/* All that the commands act on; the vertices past the count are free. */
+static int same_core(const nauvelppi_engine *a, const nauvelppi_engine *b)
+{
+    return same_transform(&a->transform, &b->transform) && same_geometry(&a->geometry, &b->geometry)
+        && same_waiting(&a->geometry.waiting, &b->geometry.waiting, a->geometry.waiting.count)
+        && same_stacks(&a->stacks, &b->stacks);
+}
+
+/* ---- Start */
+
+static const int32_t unit[16] = {4096, 0, 0, 0, 0, 4096, 0, 0, 0, 0, 4096, 0, 0, 0, 0, 4096};
+
+static nauvelppi_engine fresh(size_t vertex_room, size_t polygon_room)
+{
+    nauvelppi_engine e;
+    memset(&e, 0, sizeof e);
+    memcpy(e.transform.pair.position, unit, sizeof unit);
+    memcpy(e.transform.pair.vector, unit, sizeof unit);
+    memcpy(e.transform.projection.matrix, unit, sizeof unit);
+    memcpy(e.transform.texture.matrix, unit, sizeof unit);
+    e.geometry.rooms.vertices = vertex_room;
+    e.geometry.rooms.polygons = polygon_room;
+    return e;
+}
+
+static void started(const char *name, size_t vertex_room, size_t polygon_room, uint32_t number)
+{
+    nauvelppi_engine_answer r = nauvelppi_start(vertex_room, polygon_room);
+    nauvelppi_engine expected = number == 0 ? fresh(vertex_room, polygon_room) : fresh(1, 1);
+    check(r.number == number, name, "another number");
+    check(r.place == 0, name, "another place");
+    check(same_cells(&r.engine, &expected), name, "another engine");
+}
+
+static void start_checks(void)
+{
+    started("start", VERTICES, POLYGONS, 0);
+    started("start, smallest rooms", 1, 1, 0);
+    started("start, largest rooms", 6144, 2048, 0);
+    started("start, no vertices", 0, 1, 11);
+    started("start, no polygons", 1, 0, 11);
+    started("start, too many vertices", 6145, 2048, 11);
+    started("start, too many polygons", 6144, 2049, 11);
+    started("start, all vertices", SIZE_MAX, 1, 11);
+}
+
+/* ---- A list */
+
+enum { FRONT = 0x001f00c0, BACK = 0x1e020040 };
+
+static const uint32_t list[] = {
+    /* mode 0, scale, mode 2, translate */
+    0x1c101b10, 0, 8192, 4096, 4096, 2, 4096, (uint32_t)-8192, 2048,
+    /* push, scale, colour, attributes */
+    0x29201b11, 2049, 4096, (uint32_t)-4096, 0xffff, FRONT,
+    /* triangle strip, a vertex, a vertex of 10-bit fields, colour */
+    0x20242340, 2, 0x20001000, 0x0000f000, 0x200007ff, 0x8123,
+    /* a vertex by XY, attributes for the next list, a vertex by differences, end; a dummy */
+    0x41282925, 0x0064ffff, BACK, 0x3ffff801, 0xdeadbeef,
+    /* pop, store, quads, a vertex by XZ */
+    0x26401312, 1, 30, 1, 0x0014000a,
+    /* a vertex by YZ, a vertex, a vertex by XY */
+    0x00252327, 0x0007fffb, 0x80007fff, 0xabcd0000, 0,
+};
+
+/* The same commands as port writes. */
+static const uint32_t log_of_list[][2] = {
+    {PORT(0x10), 0}, {PORT(0x1b), 8192}, {PORT(0x1b), 4096}, {PORT(0x1b), 4096}, {PORT(0x10), 2},
+    {PORT(0x1c), 4096}, {PORT(0x1c), (uint32_t)-8192}, {PORT(0x1c), 2048}, {PORT(0x11), 77},
+    {PORT(0x1b), 2049}, {PORT(0x1b), 4096}, {PORT(0x1b), (uint32_t)-4096}, {PORT(0x20), 0xffff},
+    {PORT(0x29), FRONT}, {PORT(0x40), 2}, {PORT(0x23), 0x20001000}, {PORT(0x23), 0x0000f000},
+    {PORT(0x24), 0x200007ff}, {PORT(0x20), 0x8123}, {PORT(0x25), 0x0064ffff}, {PORT(0x29), BACK},
+    {PORT(0x28), 0x3ffff801}, {PORT(0x41), 0}, {PORT(0x12), 1}, {PORT(0x13), 30}, {PORT(0x40), 1},
+    {PORT(0x26), 0x0014000a}, {PORT(0x27), 0x0007fffb}, {PORT(0x23), 0x80007fff}, {PORT(0x23), 0xabcd0000},
+    {PORT(0x25), 0},
+};
+
+/* Where the list is looked at on the way: how many words were taken then. */
+enum { PUSHED = 10, SCALED = 13, STRIP_OF_3 = 23, STRIP_OF_4 = 25, STRIP_ENDED = 26 };
+
+/* Position and vector after the translation, which the pop brings back; position after the second scale. */
+static const int32_t moved[16] = {4096, 0, 0, 0, 0, 4096, 0, 0, 0, 0, 4096, 0, 4096, -8192, 2048, 4096};
+static const int32_t scaled[16] = {2049, 0, 0, 0, 0, 4096, 0, 0, 0, 0, -4096, 0, 4096, -8192, 2048, 4096};
+static const int32_t projection[16] = {8192, 0, 0, 0, 0, 4096, 0, 0, 0, 0, 4096, 0, 0, 0, 0, 4096};
+
+/* The strip's clip matrix has the rows (4098, 0, 0, 0), (0, 4096, 0, 0), (0, 0, -4096, 0), (8192, -8192, 2048, 4096).
+ * Its vertices are at (4096, 8192, -4096), (-64, 64, -32768), (-1, 100, -32768) and (0, 98, 32767): the last Z is
+ * -32768 - 1, kept to 16 bits. X is 4098 X / 4096, rounded down, plus 8192. */
+#define STRIP_0 12290, 0, 6144, 4096, 32767
+#define STRIP_1 8127, -8128, 34816, 4096, 32767
+#define STRIP_2 8190, -8092, 34816, 4096, 0x123
+#define STRIP_3 8192, -8094, -30719, 4096, 0x123
+/* The quad's has (8192, 0, 0, 0), (0, 4096, 0, 0), (0, 0, 4096, 0), (8192, -8192, 2048, 4096); its vertices are at
+ * (10, 98, 20), (10, -5, 7), (32767, -32768, 0) and (0, 0, 0). */
+#define QUAD_0 8212, -8094, 2068, 4096, 0x123
+#define QUAD_1 8212, -8197, 2055, 4096, 0x123
+#define QUAD_2 73726, -40960, 2048, 4096, 0x123
+#define QUAD_3 8192, -8192, 2048, 4096, 0x123
+
+static const int32_t strip[][5] = {{STRIP_0}, {STRIP_1}, {STRIP_2}, {STRIP_3}};
+
+/* Triangle 0 is 0, 1, 2, triangle 1, odd, is 2, 1, 3. */
+static const int32_t stored[5 * VERTICES] = {STRIP_0, STRIP_1, STRIP_2, STRIP_2, STRIP_1,
+                                             STRIP_3, QUAD_0,  QUAD_1,  QUAD_2,  QUAD_3};
+static const uint32_t stored_polygons[3 * POLYGONS] = {0, 3, FRONT, 3, 3, FRONT, 6, 4, BACK};
+
+/* The buffers hold so many vertices and polygons of the list, and behind them what was there before. */
+static void buffers_hold(const char *name, size_t vertex_count, size_t polygon_count)
+{
+    for (size_t i = 0; i < VERTEX_NUMBERS; i++)
+        check(vertices[i] == (i < 5 * vertex_count ? stored[i] : vertex_filler(i)), name, "another vertex");
+    for (size_t i = 0; i < POLYGON_NUMBERS; i++)
+        check(polygons[i] == (i < 3 * polygon_count ? stored_polygons[i] : polygon_filler(i)), name,
+              "another polygon");
+}
+
+static void used(const char *name, const nauvelppi_engine *e, size_t vertex_count, size_t polygon_count)
+{
+    check(e->geometry.used.vertices == vertex_count, name, "another count of vertices");
+    check(e->geometry.used.polygons == polygon_count, name, "another count of polygons");
+}
+
+static void waits(const char *name, const nauvelppi_engine *e, uint32_t kind, size_t count)
+{
+    check(e->geometry.waiting.list == kind, name, "another list");
+    check(e->geometry.waiting.count == count, name, "another count of waiting vertices");
+}
+
+#define HOLDS(numbers, expected) (memcmp(numbers, expected, sizeof(expected)) == 0)
+
+static void take(const char *name, nauvelppi_engine *e, uint32_t word)
+{
+    nauvelppi_call_answer r =
+        nauvelppi_word_in_place(e, word, vertices, VERTEX_NUMBERS, polygons, POLYGON_NUMBERS);
+    check(r.number == 0 && r.place == 0, name, "a word is refused");
+}
+
+static void take_write(const char *name, nauvelppi_engine *e, uint32_t address, uint32_t value)
+{
+    nauvelppi_engine_answer r =
+        nauvelppi_port_write(*e, address, value, vertices, VERTEX_NUMBERS, polygons, POLYGON_NUMBERS);
+    check(r.number == 0 && r.place == 0, name, "a port write is refused");
+    *e = r.engine;
+}
+
+/* No command is begun: a command word is due, which is where a hole is refused with 3. */
+static void none_begun(const char *name, const nauvelppi_engine *e)
+{
+    nauvelppi_engine_answer r =
+        nauvelppi_word(*e, 0x00110015, vertices, VERTEX_NUMBERS, polygons, POLYGON_NUMBERS);
+    check(r.number == 3, name, "a command is begun");
+}
+
+static void on_the_way(const nauvelppi_engine *e, size_t taken)
+{
+    const nauvelppi_waiting *w = &e->geometry.waiting;
+    switch (taken) {
+    case PUSHED:
+        check(e->transform.pair.level == 1, "list, pushed", "another level");
+        check(HOLDS(e->stacks.positions, moved) && HOLDS(e->stacks.vectors, moved), "list, pushed", "another slot");
+        break;
+    case SCALED:
+        check(HOLDS(e->transform.pair.position, scaled), "list, scaled", "another position matrix");
+        check(HOLDS(e->transform.pair.vector, moved), "list, scaled", "another vector matrix");
+        break;
+    case STRIP_OF_3:
+        used("list, a triangle", e, 3, 1);
+        waits("list, a triangle", e, 4, 2);
+        check(HOLDS(w->first, strip[1]) && HOLDS(w->second, strip[2]), "list, a triangle", "others wait");
+        check(e->geometry.attributes == FRONT, "list, a triangle", "other attributes");
+        buffers_hold("list, a triangle", 3, 1);
+        break;
+    case STRIP_OF_4:
+        used("list, two triangles", e, 6, 2);
+        waits("list, two triangles", e, 3, 2);
+        check(HOLDS(w->first, strip[2]) && HOLDS(w->second, strip[3]), "list, two triangles", "others wait");
+        check(e->geometry.given == BACK && e->geometry.attributes == FRONT, "list, two triangles",
+              "other attributes");
+        check(e->stream.dummy, "list, two triangles", "no dummy is due");
+        break;
+    case STRIP_ENDED:
+        none_begun("list, dummy", e);
+        break;
+    }
+}
+
+static void ended(const char *name, const nauvelppi_engine *e)
+{
+    nauvelppi_engine expected = fresh(VERTICES, POLYGONS);
+    memcpy(expected.transform.pair.position, moved, sizeof moved);
+    memcpy(expected.transform.pair.vector, moved, sizeof moved);
+    memcpy(expected.transform.projection.matrix, projection, sizeof projection);
+    expected.transform.mode = 2;
+    for (size_t slot = 0; slot <= 30; slot += 30) {
+        memcpy(expected.stacks.positions + 16 * slot, moved, sizeof moved);
+        memcpy(expected.stacks.vectors + 16 * slot, moved, sizeof moved);
+    }
+    expected.geometry.colour = 0x123;
+    expected.geometry.given = BACK;
+    expected.geometry.attributes = BACK;
+    expected.geometry.waiting.list = 2;
+    expected.geometry.used.vertices = VERTICES;
+    expected.geometry.used.polygons = POLYGONS;
+    check(same_core(e, &expected), name, "another engine");
+    none_begun(name, e);
+    buffers_hold(name, VERTICES, POLYGONS);
+}
+
+/* A polygon more than there is room for, and a pop from the empty stack: two flags, and nothing else but the list. */
+static void flags(nauvelppi_engine *e)
+{
+    static const uint32_t more[] = {0x25252540, 0, 0, 0, 0, 0x00000012, 1};
+    nauvelppi_engine expected = *e;
+    for (size_t i = 0; i < COUNT(more); i++)
+        take("list, one polygon more", e, more[i]);
+    expected.geometry.waiting.list = 1;
+    expected.geometry.overflow = true;
+    expected.transform.error = true;
+    check(same_core(e, &expected), "list, one polygon more", "another engine");
+    buffers_hold("list, one polygon more", VERTICES, POLYGONS);
+}
+
+static void list_checks(void)
+{
+    nauvelppi_engine by_words = nauvelppi_start(VERTICES, POLYGONS).engine, by_writes = by_words;
+
+    fill_buffers();
+    for (size_t i = 0; i < COUNT(log_of_list); i++)
+        take_write("port writes", &by_writes, log_of_list[i][0], log_of_list[i][1]);
+    ended("port writes", &by_writes);
+
+    fill_buffers();
+    for (size_t i = 0; i < COUNT(list); i++) {
+        take("list", &by_words, list[i]);
+        on_the_way(&by_words, i + 1);
+    }
+    ended("list", &by_words);
+    check(same_core(&by_words, &by_writes), "list", "another engine than by port writes");
+    flags(&by_words);
+}
+
+/* A word by value: the engine that was passed is as it was, and the answer has the other one. */
+static void by_value(void)
+{
+    nauvelppi_engine e = nauvelppi_start(VERTICES, POLYGONS).engine, before = e;
+    fill_buffers();
+    nauvelppi_engine_answer r =
+        nauvelppi_word(e, 0x00000020, vertices, VERTEX_NUMBERS, polygons, POLYGON_NUMBERS);
+    check(r.number == 0 && same_cells(&e, &before), "by value", "the engine that was passed is changed");
+    r = nauvelppi_word(r.engine, 0x7abc, vertices, VERTEX_NUMBERS, polygons, POLYGON_NUMBERS);
+    check(r.number == 0 && r.engine.geometry.colour == 0x7abc, "by value", "another colour");
+    buffers_hold("by value", 0, 0);
+}
+
+/* ---- Refusals */
+
+static nauvelppi_engine sound;
+
+static void keep_buffers(void)
+{
+    memcpy(vertices_before, vertices, sizeof vertices);
+    memcpy(polygons_before, polygons, sizeof polygons);
+}
+
+static void refusal(const char *name, const nauvelppi_engine_answer *r, const nauvelppi_engine *e, uint32_t number)
+{
+    check(r->number == number, name, "another number");
+    check(r->place == 0, name, "another place");
+    check(same_cells(&r->engine, e), name, "the engine is changed");
+    check(memcmp(vertices, vertices_before, sizeof vertices) == 0, name, "the vertices are changed");
+    check(memcmp(polygons, polygons_before, sizeof polygons) == 0, name, "the polygons are changed");
+}
+
+static void refused_word(const char *name, const nauvelppi_engine *e, uint32_t word, size_t vertices_length,
+                         size_t polygons_length, uint32_t number)
+{
+    nauvelppi_engine in_place = *e;
+    keep_buffers();
+    nauvelppi_engine_answer r = nauvelppi_word(*e, word, vertices, vertices_length, polygons, polygons_length);
+    refusal(name, &r, e, number);
+    nauvelppi_call_answer s =
+        nauvelppi_word_in_place(&in_place, word, vertices, vertices_length, polygons, polygons_length);
+    check(s.number == number && s.place == 0 && same_cells(&in_place, e), name, "another answer in place");
+}
+
+static void refused_write(const char *name, const nauvelppi_engine *e, uint32_t address, size_t vertices_length,
+                          size_t polygons_length, uint32_t number)
+{
+    keep_buffers();
+    nauvelppi_engine_answer r =
+        nauvelppi_port_write(*e, address, 5, vertices, vertices_length, polygons, polygons_length);
+    refusal(name, &r, e, number);
+}
+
+/* Both calls refuse it with 1, before anything else: short buffers, a hole, an address that is no port. */
+static void not_sound(const char *name, const nauvelppi_engine *e)
+{
+    refused_word(name, e, 0x00000020, VERTEX_NUMBERS, POLYGON_NUMBERS, 1);
+    refused_word(name, e, 0x00110015, 0, 0, 1);
+    refused_write(name, e, PORT(0x20), VERTEX_NUMBERS, POLYGON_NUMBERS, 1);
+    refused_write(name, e, PORT(0x73), 0, 0, 1);
+}
+
+static void unsound_checks(void)
+{
+    nauvelppi_engine e = sound;
+    e.transform.pair.level = 32;
+    not_sound("level 32", &e);
+    e = sound;
+    e.transform.mode = 4;
+    not_sound("mode 4", &e);
+    e = sound;
+    e.geometry.waiting.list = 6;
+    not_sound("list 6", &e);
+    e.geometry.waiting.list = UINT32_MAX;
+    e.geometry.waiting.count = SIZE_MAX;
+    not_sound("list 4294967295", &e);
+    e = sound;
+    e.geometry.waiting.list = 0;
+    e.geometry.waiting.count = 1;
+    not_sound("a vertex waits in a closed list", &e);
+    e = sound;
+    e.geometry.used.vertices = VERTICES + 1;
+    not_sound("more used than the room", &e);
+    e = sound;
+    e.stream.queue = 0x00100020;
+    not_sound("a hole in the queue", &e);
+    e = sound;
+    e.stream.port = 0x73;
+    not_sound("an unknown command at the port", &e);
+}
+
+/* Numbers 0 to 5 are lists; with each of them a word is taken, and the list stays as it was. */
+static void all_lists(void)
+{
+    for (uint32_t kind = 0; kind < 6; kind++) {
+        nauvelppi_engine e = sound;
+        e.geometry.waiting.list = kind;
+        e.geometry.waiting.count = 0;
+        take("every list", &e, 0);
+        check(e.geometry.waiting.list == kind, "every list", "another list");
+    }
+}
+
+static void short_buffers(void)
+{
+    refused_word("vertices one short", &sound, 0x00000020, 5 * VERTICES - 1, 3 * POLYGONS, 2);
+    refused_word("polygons one short", &sound, 0x00000020, 5 * VERTICES, 3 * POLYGONS - 1, 2);
+    refused_word("2 before 3", &sound, 0x00110015, 0, 0, 2);
+    refused_write("vertices one short, port", &sound, PORT(0x20), 5 * VERTICES - 1, 3 * POLYGONS, 2);
+    refused_write("polygons one short, port", &sound, PORT(0x20), 5 * VERTICES, 3 * POLYGONS - 1, 2);
+    refused_write("2 before 5", &sound, PORT(0x73), 0, 0, 2);
+    nauvelppi_engine_answer r =
+        nauvelppi_word(sound, 0, vertices, 5 * VERTICES, polygons, 3 * POLYGONS);
+    check(r.number == 0, "buffers just long enough", "another number");
+}
+
+static void begun_checks(void)
+{
+    nauvelppi_engine packed = sound, dummy = sound, port = sound;
+    take("a packed word begun", &packed, 0x00000023);
+    take("a packed word begun", &packed, 0x11112222);
+    take("a dummy due", &dummy, 0x00000015);
+    take_write("a port command begun", &port, PORT(0x23), 0x33334444);
+
+    refused_write("4, a packed command", &packed, PORT(0x23), VERTEX_NUMBERS, POLYGON_NUMBERS, 4);
+    refused_write("4, a dummy", &dummy, PORT(0x20), VERTEX_NUMBERS, POLYGON_NUMBERS, 4);
+    refused_write("5 before 4", &packed, PORT(0x23) + 2, VERTEX_NUMBERS, POLYGON_NUMBERS, 5);
+    refused_write("2 before 4, port", &packed, PORT(0x23), 0, POLYGON_NUMBERS, 2);
+    refused_word("4, a port command", &port, 0x00000020, VERTEX_NUMBERS, POLYGON_NUMBERS, 4);
+    refused_word("4 before 3", &port, 0x00110015, VERTEX_NUMBERS, POLYGON_NUMBERS, 4);
+    refused_word("2 before 4", &port, 0x00000020, VERTEX_NUMBERS, 0, 2);
+    refused_write("6", &port, PORT(0x24), VERTEX_NUMBERS, POLYGON_NUMBERS, 6);
+    refused_write("6, a port without parameters", &port, PORT(0x15), VERTEX_NUMBERS, POLYGON_NUMBERS, 6);
+    refused_write("5 before 6", &port, PORT(0x73), VERTEX_NUMBERS, POLYGON_NUMBERS, 5);
+
+    /* what was begun goes on; a parameter is no command word */
+    take("a packed word ended", &packed, 0x00110015);
+    check(packed.geometry.position.z == 0x15, "a packed word ended", "another Z");
+    none_begun("a packed word ended", &packed);
+    take_write("a port command ended", &port, PORT(0x23), 0x5555);
+    check(port.geometry.position.x == 0x4444 && port.geometry.position.y == 0x3333
+              && port.geometry.position.z == 0x5555,
+          "a port command ended", "another position");
+    none_begun("a port command ended", &port);
+}
+
+static void refusal_checks(void)
+{
+    /* a sound engine with a strip open, two vertices waiting, and something in every free cell */
+    sound = nauvelppi_start(VERTICES, POLYGONS).engine;
+    fill_buffers();
+    for (size_t i = 0; i < STRIP_ENDED; i++)
+        take("before the refusals", &sound, list[i]);
+    for (size_t i = 0; i < 5; i++)
+        sound.geometry.waiting.third[i] = -(int32_t)i - 1000000;
+    for (size_t i = 0; i < 32; i++)
+        sound.stream.held[i] = 0xfee00000u + (uint32_t)i;
+    waits("before the refusals", &sound, 3, 2);
+
+    unsound_checks();
+    all_lists();
+    short_buffers();
+    refused_word("a hole", &sound, 0x00110015, VERTEX_NUMBERS, POLYGON_NUMBERS, 3);
+    refused_word("an unknown byte below a command", &sound, 0x00001099, VERTEX_NUMBERS, POLYGON_NUMBERS, 3);
+    refused_write("no known command's port", &sound, PORT(0x73), VERTEX_NUMBERS, POLYGON_NUMBERS, 5);
+    refused_write("between two ports", &sound, PORT(0x20) + 1, VERTEX_NUMBERS, POLYGON_NUMBERS, 5);
+    refused_write("address 0", &sound, 0, VERTEX_NUMBERS, POLYGON_NUMBERS, 5);
+    begun_checks();
+}
+
+int main(void)
+{
+    start_checks();
+    list_checks();
+    by_value();
+    refusal_checks();
+    printf("engine: %u checks passed\n", passed);
+    return 0;
+}

@@ -1,0 +1,72 @@
+//! The product's static library: its functions for C, each behind a safe function.
+//!
+//! Safe, because a slice has as many bytes or numbers as its size says, none is null, and no two of them overlap.
+
+use reference::geometry::Buffers;
+use reference::record::Record;
+
+/// The answer of pack and unpack; the length is in words.
+#[repr(C)]
+#[derive(Clone, Copy, Debug, PartialEq, Eq)]
+pub struct Answer {
+    pub number: u32,
+    pub place: u32,
+    pub length: u32,
+}
+
+/// The answer of an engine call.
+#[repr(C)]
+#[derive(Clone, Copy, Debug, PartialEq, Eq)]
+pub struct EngineAnswer {
+    pub number: u32,
+    pub place: u32,
+    pub engine: Record,
+}
+
+#[link(name = "bridge", kind = "static")]
+extern "C" {
+    fn nauvelppi_pack(log: *const u8, log_size: usize, output: *mut u8, output_size: usize) -> Answer;
+    fn nauvelppi_unpack(list: *const u8, list_size: usize, output: *mut u8, output_size: usize) -> Answer;
+    fn nauvelppi_start(vertices: usize, polygons: usize) -> EngineAnswer;
+    fn nauvelppi_word(
+        engine: Record,
+        word: u32,
+        vertices: *mut i32,
+        vertex_numbers: usize,
+        polygons: *mut u32,
+        polygon_numbers: usize,
+    ) -> EngineAnswer;
+    fn nauvelppi_port_write(
+        engine: Record,
+        address: u32,
+        value: u32,
+        vertices: *mut i32,
+        vertex_numbers: usize,
+        polygons: *mut u32,
+        polygon_numbers: usize,
+    ) -> EngineAnswer;
+}
+
+pub fn pack(log: &[u8], output: &mut [u8]) -> Answer {
+    unsafe { nauvelppi_pack(log.as_ptr(), log.len(), output.as_mut_ptr(), output.len()) }
+}
+
+pub fn unpack(list: &[u8], output: &mut [u8]) -> Answer {
+    unsafe { nauvelppi_unpack(list.as_ptr(), list.len(), output.as_mut_ptr(), output.len()) }
+}
+
+pub fn start(vertices: usize, polygons: usize) -> EngineAnswer {
+    unsafe { nauvelppi_start(vertices, polygons) }
+}
+
+pub fn word(engine: Record, word: u32, buffers: &mut Buffers) -> EngineAnswer {
+    let (vertices, vertex_numbers) = (buffers.vertices.as_mut_ptr(), buffers.vertices.len());
+    let (polygons, polygon_numbers) = (buffers.polygons.as_mut_ptr(), buffers.polygons.len());
+    unsafe { nauvelppi_word(engine, word, vertices, vertex_numbers, polygons, polygon_numbers) }
+}
+
+pub fn write(engine: Record, address: u32, value: u32, buffers: &mut Buffers) -> EngineAnswer {
+    let (vertices, vertex_numbers) = (buffers.vertices.as_mut_ptr(), buffers.vertices.len());
+    let (polygons, polygon_numbers) = (buffers.polygons.as_mut_ptr(), buffers.polygons.len());
+    unsafe { nauvelppi_port_write(engine, address, value, vertices, vertex_numbers, polygons, polygon_numbers) }
+}

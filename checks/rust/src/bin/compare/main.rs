@@ -1,0 +1,81 @@
+//! Compares the compiled library and programs with the reference on random cases.
+//!
+//! `compare [CASES [SEED]]`: the same numbers give the same cases.
+
+mod engines;
+mod generate;
+mod library;
+mod lists;
+mod programs;
+mod random;
+mod records;
+mod replay;
+mod tally;
+mod twin;
+
+use std::panic::{catch_unwind, AssertUnwindSafe};
+use std::process::ExitCode;
+
+use random::Random;
+use tally::Tally;
+
+const CASES: u64 = 300_000;
+const SEED: u64 = 1;
+
+type Case = fn(&mut Random, &mut Tally) -> Result<(), String>;
+
+/// The kinds of cases, and how many of a thousand are of each.
+const KINDS: &[(&str, usize, Case)] = &[
+    ("pack", 180, lists::pack_case),
+    ("unpack", 180, lists::unpack_case),
+    ("long", 6, lists::long_case),
+    ("round trip", 50, lists::round_trip_case),
+    ("program", 3, programs::program_case),
+    ("replay", 3, replay::replay_case),
+    ("start", 20, engines::start_case),
+    ("words", 180, engines::words_case),
+    ("writes", 120, engines::writes_case),
+    ("mixture", 100, engines::mixture_case),
+    ("unsound", 80, engines::unsound_case),
+    ("short buffers", 30, engines::short_case),
+    ("demand 3", 50, engines::demand_3_case),
+];
+
+fn main() -> ExitCode {
+    let mut arguments = std::env::args().skip(1).map(|argument| argument.parse::<u64>());
+    let (Ok(cases), Ok(seed)) = (arguments.next().unwrap_or(Ok(CASES)), arguments.next().unwrap_or(Ok(SEED))) else {
+        println!("usage: compare [CASES [SEED]]");
+        return ExitCode::FAILURE;
+    };
+    let mut tally = Tally::default();
+    for case in 0..cases {
+        let mut random = Random::new(seed, case);
+        let (name, run) = kind(&mut random);
+        // A panic is a difference too, and its case is to be known.
+        let outcome = catch_unwind(AssertUnwindSafe(|| run(&mut random, &mut tally)));
+        if let Err(text) = outcome.unwrap_or_else(|_| Err("panic".to_owned())) {
+            println!("seed {seed}, case {case}, {name}: {text}");
+            return ExitCode::FAILURE;
+        }
+    }
+    println!("{tally}");
+    if let Err(text) = tally.check() {
+        println!("compare: {text}");
+        return ExitCode::FAILURE;
+    }
+    println!("compare: {cases} cases agree");
+    ExitCode::SUCCESS
+}
+
+/// The kind of a case, by the shares of the kinds.
+fn kind(random: &mut Random) -> (&'static str, Case) {
+    let total = KINDS.iter().map(|(_, share, _)| share).sum();
+    let mut place = random.below(total);
+    for &(name, share, case) in KINDS {
+        if place < share {
+            return (name, case);
+        }
+        place -= share;
+    }
+    unreachable!("the shares sum up to the total")
+}

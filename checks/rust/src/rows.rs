@@ -1,0 +1,216 @@
+//! Document 01, Rows to check, against this implementation.
+
+use crate::engine::Engine;
+use crate::geometry::{Buffers, List};
+use crate::matrix::UNIT;
+use crate::pack::pack;
+use crate::refusal::Refusal;
+use crate::report::{replay_report, unpack_report, Input};
+use crate::stream::commands;
+use crate::table::{known, parameters, port};
+use crate::words::to_bytes;
+
+/// An engine with large buffers of its own.
+struct Bench {
+    engine: Engine,
+    vertices: Vec<i32>,
+    polygons: Vec<u32>,
+}
+
+impl Bench {
+    fn new(vertices: usize, polygons: usize) -> Self {
+        let engine = Engine::start(vertices, polygons).expect("rooms in range");
+        Bench { engine, vertices: vec![0; 5 * vertices], polygons: vec![0; 3 * polygons] }
+    }
+
+    /// Writes the parameters to the command's port, one write where it takes none.
+    fn run(&mut self, command: u8, parameters: &[u32]) {
+        let writes = if parameters.is_empty() { &[0] } else { parameters };
+        for &value in writes {
+            let mut buffers = Buffers { vertices: &mut self.vertices, polygons: &mut self.polygons };
+            self.engine.write(port(command), value, &mut buffers).expect("the write is taken");
+        }
+    }
+
+    fn word(&mut self, word: u32) -> Result<(), Refusal> {
+        let mut buffers = Buffers { vertices: &mut self.vertices, polygons: &mut self.polygons };
+        self.engine.word(word, &mut buffers)
+    }
+
+    fn error(&self) -> bool {
+        self.engine.status() >> 15 & 1 == 1
+    }
+
+    fn level(&self) -> u32 {
+        self.engine.status() >> 8 & 31
+    }
+}
+
+#[test]
+fn row_1_parameters() {
+    assert_eq!(parameters(0x34), Some(32));
+    for unknown in [0x73, 0x9F, 0xFF, 0x00] {
+        assert_eq!(parameters(unknown), None);
+    }
+    assert_eq!(known().count(), 37);
+}
+
+#[test]
+fn row_2_command_words() {
+    assert_eq!(Bench::new(1, 1).word(0x0011_0015), Err(Refusal::Hole));
+    assert_eq!(Bench::new(1, 1).word(0x0000_1099), Err(Refusal::Hole));
+    assert_eq!(Bench::new(1, 1).word(0x9900_0010), Ok(()));
+    assert_eq!(commands(0x9900_0010), Some(0x10));
+}
+
+#[test]
+fn row_3_scale() {
+    for (entry, by, expected) in [(1, -1, -1), (1, 4095, 0), (0x7FFF_FFFF, 8192, -2)] {
+        let mut bench = Bench::new(1, 1);
+        let mut matrix = [0; 16];
+        matrix[0] = entry as u32;
+        bench.run(0x16, &matrix);
+        bench.run(0x1B, &[by as u32, 0, 0]);
+        assert_eq!(bench.engine.transform.projection.matrix[0], expected);
+    }
+}
+
+#[test]
+fn row_4_push_at_31() {
+    let mut bench = Bench::new(1, 1);
+    bench.run(0x10, &[1]);
+    (0..31).for_each(|_| bench.run(0x11, &[]));
+    assert_eq!((bench.level(), bench.error()), (31, false));
+    bench.run(0x11, &[]);
+    assert_eq!((bench.level(), bench.error()), (31, true));
+}
+
+#[test]
+fn row_5_pop() {
+    let mut bench = Bench::new(1, 1);
+    bench.run(0x10, &[1]);
+    bench.run(0x12, &[1]);
+    assert_eq!((bench.level(), bench.error()), (0, true));
+    assert_eq!(bench.engine.transform.pair.position, UNIT);
+    bench.run(0x12, &[0x3F]);
+    assert_eq!(bench.level(), 1);
+    assert_eq!(bench.engine.transform.pair.position, [0; 16]);
+}
+
+#[test]
+fn row_6_store() {
+    let mut bench = Bench::new(1, 1);
+    bench.run(0x10, &[2]);
+    bench.run(0x13, &[30]);
+    assert!(!bench.error());
+    assert_eq!(bench.engine.transform.pair.vectors[30], UNIT);
+    bench.run(0x13, &[31]);
+    assert!(bench.error());
+}
+
+#[test]
+fn row_7_relative_vertex() {
+    let mut bench = Bench::new(1, 1);
+    bench.run(0x23, &[32767, 5]);
+    bench.run(0x28, &[1]);
+    assert_eq!(bench.engine.geometry.position, [-32768, 0, 5]);
+}
+
+#[test]
+fn row_8_ten_bit_vertex() {
+    let mut bench = Bench::new(1, 1);
+    bench.run(0x24, &[0x200 | 1 << 10 | 0x3FF << 20]);
+    assert_eq!(bench.engine.geometry.position, [-32768, 64, -64]);
+}
+
+#[test]
+fn row_9_rooms_3_and_1() {
+    let mut bench = Bench::new(3, 1);
+    bench.run(0x40, &[0]);
+    (0..3).for_each(|k| bench.run(0x23, &[k, 0]));
+    assert!(!bench.engine.overflow());
+    (0..3).for_each(|k| bench.run(0x23, &[k, 0]));
+    assert!(bench.engine.overflow());
+    assert_eq!(bench.polygons, [0, 3, 0]);
+    assert_eq!(bench.vertices, [0, 0, 0, 4096, 0, 1, 0, 0, 4096, 0, 2, 0, 0, 4096, 0]);
+    bench.engine.clear_overflow();
+    assert!(!bench.engine.overflow());
+}
+
+#[test]
+fn row_10_pack() {
+    let log = to_bytes(&[0x0400_0440, 2, 0x0400_0454, 7]);
+    let mut output = [0xAA; 16];
+    assert_eq!(pack(&log, &mut output), Ok(3));
+    assert_eq!(output[..12], to_bytes(&[0x1510, 2, 0]));
+    assert_eq!(output[12..], [0xAA; 4]);
+    assert_eq!(pack(&log, &mut output[..8]), Err(Refusal::ShortOutput.into()));
+}
+
+#[test]
+fn row_11_rooms() {
+    assert!(Engine::start(6144, 2048).is_ok());
+    for (vertices, polygons) in [(6145, 2048), (0, 1), (1, 0), (1, 2049), (usize::MAX, 1)] {
+        assert_eq!(Engine::start(vertices, polygons).err(), Some(Refusal::Room));
+    }
+}
+
+#[test]
+fn row_12_empty_log() {
+    assert_eq!(pack(&[], &mut []), Ok(0));
+}
+
+#[test]
+fn the_unpack_programs_example() {
+    let list = to_bytes(&[0x1510, 2, 0]);
+    assert_eq!(unpack_report(&list), "ports 2\n04000440 00000002\n04000454 00000000\n");
+    assert_eq!(unpack_report(&to_bytes(&[0x0011_0015])), "refused 3 0\n");
+    assert_eq!(unpack_report(&list[..8]), "refused 8 0\n");
+    assert_eq!(unpack_report(&list[..7]), "refused 7 0\n");
+}
+
+#[test]
+fn orders_in_strips() {
+    let mut bench = Bench::new(6144, 2048);
+    let firsts = |bench: &Bench| bench.vertices.chunks(5).map(|vertex| vertex[0]).collect::<Vec<_>>();
+    bench.run(0x29, &[7]);
+    bench.run(0x40, &[2]);
+    bench.run(0x29, &[8]);
+    (0..5).for_each(|k| bench.run(0x23, &[k, 0]));
+    assert_eq!(firsts(&bench)[..9], [0, 1, 2, 2, 1, 3, 2, 3, 4]);
+    assert_eq!(bench.polygons[..9], [0, 3, 7, 3, 3, 7, 6, 3, 7]);
+    assert_eq!(bench.engine.geometry.list, List::TriangleStrip { odd: true });
+    bench.run(0x50, &[0]);
+    bench.run(0x40, &[3]);
+    (0..6).for_each(|k| bench.run(0x23, &[k, 0]));
+    assert_eq!(firsts(&bench)[..9], [0, 1, 3, 2, 2, 3, 5, 4, 4]);
+    assert_eq!(bench.polygons[..9], [0, 4, 8, 4, 4, 8, 6, 3, 7]);
+}
+
+#[test]
+fn clearing_the_error_clears_the_projection_level() {
+    let mut bench = Bench::new(1, 1);
+    bench.run(0x11, &[]);
+    bench.run(0x11, &[]);
+    assert_eq!(bench.engine.status(), 1 << 13 | 1 << 15);
+    bench.engine.clear_error();
+    assert_eq!(bench.engine.status(), 0);
+}
+
+#[test]
+fn scale_leaves_the_vector_matrix() {
+    let mut bench = Bench::new(1, 1);
+    bench.run(0x10, &[2]);
+    bench.run(0x1B, &[8192, 8192, 8192]);
+    assert_eq!(bench.engine.direction(), [4096, 0, 0, 0, 4096, 0, 0, 0, 4096]);
+    assert_eq!(bench.engine.clip()[0], 8192);
+}
+
+#[test]
+fn a_replay_up_to_a_refusal() {
+    let report = replay_report(Input::List, (6144, 2048), &to_bytes(&[0x10, 2, 0x1000_1011]));
+    assert!(report.starts_with("taken 2\nrefused 3 2\nstatus 00000000\nmode 2\nlevels 0 0 0\noverflow 0\n"));
+    assert!(report.ends_with("\nwaiting 0\nvertices 0\npolygons 0\n"));
+    assert_eq!(replay_report(Input::Log, (6145, 1), &[]), "refused 11 0\n");
+    assert_eq!(replay_report(Input::Log, (1, 1), &[0; 4]), "refused 7 0\n");
+}

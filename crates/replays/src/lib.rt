@@ -1,0 +1,161 @@
+// What the program `replay` writes: the run of a packed list or of a log on a started engine.
+ghost use mathlib.Core.Path.{_≡_};
+ghost use mathlib.Core.Bool.{true};
+ghost use Prim.Native.Nat.{_+_, _≤_};
+ghost use lib.ListN.{length};
+ghost use Rattle.io.specs.Counts.{Counts as Counted};
+ghost use Rattle.words.specs.Words.{over};
+ghost use Rattle.state.specs.Sound.{sound};
+ghost use Rattle.polygons.specs.Buffers.{longEnough};
+ghost use Rattle.engine.specs.Call.{machineOf};
+ghost use Rattle.feeding.specs.Feed.{fedOf};
+ghost use Rattle.listing.specs.Buffer.{Puts};
+ghost use Rattle.replays.specs.Replay.{isInput, feedAs, refusalText, fedText, replay, replayAs, Reports};
+use arguments::Source;
+use feeding::Fed;
+use feeding::feed_words;
+use feeding::feed_writes;
+use listing::put_bytes;
+use listing::put_number_line;
+use listing::put_refused;
+use readout::put_engine;
+use state::Counts;
+use state::Engine;
+use stream::words_of;
+
+// Room for the longest report. What it holds is free.
+pub fn report_buffer() -> [u8; 433649]
+    ensures { λ r. ⌜ 433649 ≡ length r ⌝ }
+{
+    [0; 433649]
+}
+
+// Whether so many bytes are an input.
+fn is_input(log: bool, size: usize) -> bool
+    ensures { λ r. ⌜ r ≡ isInput log size ⌝ }
+{
+    if log {
+        return (size % 8 == 0) & (size <= 32768);
+    }
+    (size % 4 == 0) & (size <= 32768)
+}
+
+// Every word, or every port write, until one is refused.
+fn feed_as(log: bool, e: Engine, words: &[u32], vertices: &mut [i32], polygons: &mut [u32]) -> Fed
+    ensures { λ r. ⌜ fedOf r (now (vertices .exit)) (now (polygons .exit))
+        ≡ feedAs log (machineOf e (now (vertices .entry)) (now (polygons .entry))) (now (words .entry)) ⌝ }
+{
+    if log {
+        return feed_writes(e, words, &mut *vertices, &mut *polygons);
+    }
+    feed_words(e, words, &mut *vertices, &mut *polygons)
+}
+
+// The line of a refusal, where there was one.
+fn put_refusal(text: &mut [u8], at: usize, number: u32, place: u32) -> usize
+    requires { ⌜ at + 30 ≤ length (now text) ⌝ }
+    ensures { λ r. ⌜ Puts (refusalText number place) at r (now (text .entry)) (now (text .exit)) ⌝ }
+    ensures { λ r. ⌜ r ≤ at + 30 ⌝ }
+{
+    if number == 0 {
+        return at;
+    }
+    put_refused(text, at, number, place)
+}
+
+// What was fed, and the engine at its end.
+fn put_fed(text: &mut [u8], fed: Fed, vertices: &[i32], polygons: &[u32]) -> usize
+    requires { ⌜ (sound (fed .engine) ≡ true) × (fed .taken ≤ 8192) ⌝ }
+    requires { ⌜ longEnough (fed .engine .core .registers .geometry .rooms) (length (now vertices))
+        (length (now polygons)) ≡ true ⌝ }
+    requires { ⌜ 433649 ≤ length (now text) ⌝ }
+    ensures { λ r. ⌜ Puts (fedText (fedOf fed (now (vertices .entry)) (now (polygons .entry)))) 0 r
+        (now (text .entry)) (now (text .exit)) ⌝ }
+    ensures { λ r. ⌜ r ≤ 433649 ⌝ }
+{
+    let taken = fed.taken as u32;
+    let refusal = put_number_line(text, 0, b"taken ", taken);
+    let engine = put_refusal(text, refusal, fed.number, taken);
+    put_engine(text, engine, fed.engine, vertices, polygons)
+}
+
+// A run, and its report.
+fn put_run(
+    text: &mut [u8],
+    log: bool,
+    e: Engine,
+    words: &[u32],
+    vertices: &mut [i32],
+    polygons: &mut [u32],
+) -> usize
+    requires { ⌜ (sound e ≡ true) × (length (now words) ≤ 8192) ⌝ }
+    requires { ⌜ longEnough (e .core .registers .geometry .rooms) (length (now vertices)) (length (now polygons))
+        ≡ true ⌝ }
+    requires { ⌜ 433649 ≤ length (now text) ⌝ }
+    ensures { λ r. ⌜ Puts (fedText (feedAs log (machineOf e (now (vertices .entry)) (now (polygons .entry)))
+        (now (words .entry)))) 0 r (now (text .entry)) (now (text .exit)) ⌝ }
+    ensures { λ r. ⌜ now (vertices .exit)
+        ≡ feedAs log (machineOf e (now (vertices .entry)) (now (polygons .entry))) (now (words .entry))
+        .left .state .vertices ⌝ }
+    ensures { λ r. ⌜ now (polygons .exit)
+        ≡ feedAs log (machineOf e (now (vertices .entry)) (now (polygons .entry))) (now (words .entry))
+        .left .state .polygons ⌝ }
+    ensures { λ r. ⌜ r ≤ 433649 ⌝ }
+{
+    let fed = feed_as(log, e, words, &mut *vertices, &mut *polygons);
+    put_fed(text, fed, vertices, polygons)
+}
+
+// The run of an input on an engine that is started with these rooms, and its report.
+fn put_replay(
+    text: &mut [u8; 433649],
+    log: bool,
+    rooms: Counts,
+    input: &[u8],
+    vertices: &mut [i32; 30720],
+    polygons: &mut [u32; 6144],
+) -> usize
+    ensures { λ r. ⌜ Reports (replay log (rooms .vertices) (rooms .polygons) (now (input .entry))
+        (now (vertices .entry)) (now (polygons .entry))) r
+        (now (text .entry)) (now (text .exit)) (now (vertices .exit)) (now (polygons .exit)) ⌝ }
+    ensures { λ r. ⌜ Counted r (now (text .exit)) ⌝ }
+{
+    let started = Engine::start(rooms.vertices, rooms.polygons);
+    if started.number != 0 {
+        return put_refused(text, 0, 11, 0);
+    }
+    if is_input(log, input.len()) {
+        let words = words_of(input);
+        let count = input.len() / 4;
+        return put_run(
+            text,
+            log,
+            started.engine,
+            &words[..count],
+            vertices,
+            polygons,
+        );
+    }
+    put_refused(text, 0, 7, 0)
+}
+
+// What the program `replay` writes, from the buffer's first byte on; how many bytes that is.
+pub fn replay_report(
+    source: Source,
+    rooms: Counts,
+    input: &[u8],
+    vertices: &mut [i32; 30720],
+    polygons: &mut [u32; 6144],
+    text: &mut [u8; 433649],
+) -> usize
+    ensures { λ r. ⌜ Reports (replayAs source (rooms .vertices) (rooms .polygons) (now (input .entry))
+        (now (vertices .entry)) (now (polygons .entry))) r
+        (now (text .entry)) (now (text .exit)) (now (vertices .exit)) (now (polygons .exit)) ⌝ }
+    ensures { λ r. ⌜ Counted r (now (text .exit)) ⌝ }
+{
+    match source {
+        Source::List => put_replay(text, false, rooms, input, vertices, polygons),
+        Source::Log => put_replay(text, true, rooms, input, vertices, polygons),
+        Source::Neither => put_bytes(text, 0, b"usage: replay list|log [VERTICES POLYGONS]\n"),
+    }
+}
