@@ -116,7 +116,7 @@ impl Engine {
         self.stream.pending = rest;
     }
 
-    /// Runs a command whose parameters are held. Not inlined, so that `word` and `write` are small where they only hold.
+    /// Runs a command whose parameters are held. Not inlined, so that `word` and `write` stay small.
     #[inline(never)]
     fn run(&mut self, command: u8, buffers: &mut Buffers) {
         let parameters = &self.stream.held;

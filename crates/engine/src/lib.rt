@@ -30,8 +30,8 @@ use steps::port_step;
 use steps::word_step;
 
 // Runs the commands of the lowest `count` bytes of a word, from the lowest on, each with the first parameters that are
-// held, as many as it takes.
-fn run_commands(
+// held, as many as it takes. For the crates above: numbers 1 and 2 do not fall.
+pub fn run_commands(
     core: Core,
     commands: u32,
     count: usize,
@@ -64,8 +64,8 @@ fn run_commands(
     n
 }
 
-// Number 1 or 2, or 0 where neither falls.
-fn first_number(table: &[u8; 256], e: Engine, vertices: usize, polygons: usize) -> u32
+// Number 1 or 2, or 0 where neither falls. For the crates above, which lend the table.
+pub fn first_number(table: &[u8; 256], e: Engine, vertices: usize, polygons: usize) -> u32
     requires { ⌜ now table ≡ parameterTable ⌝ }
     ensures { λ r. ⌜ r ≡ firstNumber e vertices polygons ⌝ }
 {

@@ -1,12 +1,24 @@
 // Many packed words, or many port writes, fed to the engine one by one. Document 01, "The two sides of demand 3".
 ghost use mathlib.Core.Path.{_≡_};
+ghost use mathlib.Core.Bool.{true};
+ghost use Prim.Native.Nat.{_<_};
 ghost use lib.ListN.{length};
+ghost use Rattle.commands.specs.Commands.{parameterTable};
 ghost use Rattle.stream.specs.Read.{writes};
+ghost use Rattle.state.specs.Sound.{pendingOf, soundStream};
+ghost use Rattle.steps.specs.Outcome.{stepOf};
 ghost use Rattle.engine.specs.Call.{machineOf, wordReply, portReply};
-ghost use Rattle.feeding.specs.Feed.{feed, fedOf};
-use engine::port_write;
-use engine::word;
+ghost use Rattle.engine.specs.Inside.{firstNumber};
+ghost use Rattle.feeding.specs.Feed.{feed, feedAs, fedOf};
+ghost use Rattle.feeding.specs.Inside.{itemsIn, stepAt};
+use commands::parameter_table;
+use engine::first_number;
+use engine::run_commands;
 use state::Engine;
+use state::Stream;
+use steps::Outcome;
+use steps::port_step;
+use steps::word_step;
 
 // How many were taken, the number of the first refusal or 0, and the engine after those that were taken.
 pub struct Fed {
@@ -15,60 +27,129 @@ pub struct Fed {
     pub engine: Engine,
 }
 
+// Nothing was taken.
+fn none_taken(number: u32, e: Engine) -> Fed
+    ensures { λ r. ⌜ r ≡ record { taken = 0; number = number; engine = e } ⌝ }
+{
+    Fed {
+        taken: 0,
+        number: number,
+        engine: e,
+    }
+}
+
+// How many items so many words are.
+fn items_in(log: bool, size: usize) -> usize
+    ensures { λ r. ⌜ r ≡ itemsIn log size ⌝ }
+{
+    if log { size / 2 } else { size }
+}
+
+// What item i does to the stream.
+fn step_at(table: &[u8; 256], log: bool, s: Stream, words: &[u32], i: usize) -> Outcome
+    requires { ⌜ (now table ≡ parameterTable) × (soundStream s ≡ true) ⌝ }
+    requires { ⌜ i < itemsIn log (length (now words)) ⌝ }
+    ensures { λ r. ⌜ stepOf r ≡ stepAt log (pendingOf s) (now (words .entry)) i ⌝ }
+{
+    if log {
+        return port_step(table, s, words[2 * i], words[2 * i + 1]);
+    }
+    word_step(table, s, words[i])
+}
+
+// Item after item on an engine on which numbers 1 and 2 do not fall: then they fall at no item, so that neither is
+// tested again, and the core is moved only where a command is complete.
+fn feed_sound(
+    table: &[u8; 256],
+    log: bool,
+    e: Engine,
+    words: &[u32],
+    vertices: &mut [i32],
+    polygons: &mut [u32],
+) -> Fed
+    requires { ⌜ now table ≡ parameterTable ⌝ }
+    requires { ⌜ firstNumber e (length (now vertices)) (length (now polygons)) ≡ 0 ⌝ }
+    ensures { λ r. ⌜ fedOf r (now (vertices .exit)) (now (polygons .exit))
+        ≡ feedAs log (machineOf e (now (vertices .entry)) (now (polygons .entry))) (now (words .entry)) ⌝ }
+{
+    let count = items_in(log, words.len());
+    let mut core = e.core;
+    let mut stream = e.stream;
+    let mut i = 0;
+    while i < count {
+        let step = step_at(table, log, stream, words, i);
+        if step.number != 0 {
+            return Fed {
+                taken: i,
+                number: step.number,
+                engine: Engine {
+                    core: core,
+                    stream: stream,
+                },
+            };
+        }
+        stream = step.stream;
+        i += 1;
+        if step.completed == 0 {
+            continue;
+        }
+        let held = stream.held;
+        core = run_commands(
+            core,
+            step.commands,
+            step.completed,
+            held,
+            &mut *vertices,
+            &mut *polygons,
+        );
+    }
+    Fed {
+        taken: count,
+        number: 0,
+        engine: Engine {
+            core: core,
+            stream: stream,
+        },
+    }
+}
+
+// Packed words, or the port writes of a log (address, value, address, value), one by one, until one is refused. A last
+// number of a log without a partner is no write.
+pub fn feed_as(
+    log: bool,
+    e: Engine,
+    words: &[u32],
+    vertices: &mut [i32],
+    polygons: &mut [u32],
+) -> Fed
+    ensures { λ r. ⌜ fedOf r (now (vertices .exit)) (now (polygons .exit))
+        ≡ feedAs log (machineOf e (now (vertices .entry)) (now (polygons .entry))) (now (words .entry)) ⌝ }
+{
+    if items_in(log, words.len()) == 0 {
+        return none_taken(0, e);
+    }
+    let table = parameter_table();
+    let number = first_number(&table, e, vertices.len(), polygons.len());
+    if number != 0 {
+        return none_taken(number, e);
+    }
+    feed_sound(&table, log, e, words, &mut *vertices, &mut *polygons)
+}
+
 // Packed words one by one, until one is refused.
 pub fn feed_words(e: Engine, words: &[u32], vertices: &mut [i32], polygons: &mut [u32]) -> Fed
     ensures { λ r. ⌜ fedOf r (now (vertices .exit)) (now (polygons .exit))
         ≡ feed wordReply (machineOf e (now (vertices .entry)) (now (polygons .entry))) (now (words .entry)) ⌝ }
 {
-    let mut n = e;
-    let mut i = 0;
-    while i < words.len() {
-        let answer = word(n, words[i], &mut *vertices, &mut *polygons);
-        n = answer.engine;
-        if answer.number != 0 {
-            return Fed {
-                taken: i,
-                number: answer.number,
-                engine: n,
-            };
-        }
-        i += 1;
-    }
-    Fed {
-        taken: words.len(),
-        number: 0,
-        engine: n,
-    }
+    feed_as(false, e, words, &mut *vertices, &mut *polygons)
 }
 
-// The port writes of a log (address, value, address, value) one by one, until one is refused. A last number without a
-// partner is no write.
+// The port writes of a log one by one, until one is refused.
 pub fn feed_writes(e: Engine, log: &[u32], vertices: &mut [i32], polygons: &mut [u32]) -> Fed
     ensures { λ r. ⌜ fedOf r (now (vertices .exit)) (now (polygons .exit))
         ≡ feed portReply (machineOf e (now (vertices .entry)) (now (polygons .entry))) (writes (now (log .entry))) ⌝ }
 {
-    let pairs = log.len() / 2;
-    let mut n = e;
-    let mut pair = 0;
-    while pair < pairs {
-        let address = log[2 * pair];
-        let value = log[2 * pair + 1];
-        let written = port_write(n, address, value, &mut *vertices, &mut *polygons);
-        n = written.engine;
-        if written.number != 0 {
-            return Fed {
-                taken: pair,
-                number: written.number,
-                engine: n,
-            };
-        }
-        pair += 1;
-    }
-    Fed {
-        taken: pairs,
-        number: 0,
-        engine: n,
-    }
+    feed_as(true, e, log, &mut *vertices, &mut *polygons)
 }
 
 // A buffer for the largest room of vertices, 6,144. What it holds is free.

@@ -25,12 +25,12 @@ use Rattle.polygons.specs.Buffers.{Buffered, buffered, longEnough}
 use Rattle.engine.specs.Call.{machineOf, wordReply, portReply}
 use Rattle.engine.proofs.Keeps.{EngineKept}
 use Rattle.feeding.specs.declared.Fed.{Fed as FedAnswer}
-use Rattle.feeding.specs.Feed.{Fed, feed, fedOf}
+use Rattle.feeding.specs.Feed.{Fed, feedAs, fedOf}
 use Rattle.feeding.proofs.Keeps.{taken-within, words-kept, writes-kept}
 use Rattle.listing.specs.Text.{refusedLine}
 use Rattle.listing.specs.Buffer.{Puts}
 use Rattle.listing.proofs.PutLaws.{reported}
-use Rattle.replays.specs.Replay.{itemSize, isInput, feedAs, refusalText, ran, replay, Reports}
+use Rattle.replays.specs.Replay.{itemSize, isInput, refusalText, ran, replay, Reports}
 
 pub run-taken : (log : Bool) (m : Machine (Buffered Core)) (ws : List ℕ) → feedAs log m ws .taken ≤ length ws
 unfolding feedAs

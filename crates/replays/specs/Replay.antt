@@ -8,13 +8,11 @@ use lib.Dec.{leb, eqb}
 use lib.IntN.{ℤ}
 use lib.ListN.{length}
 use Rattle.words.specs.Words.{wordsOf, over}
-use Rattle.stream.specs.Call.{Machine}
-use Rattle.stream.specs.Read.{writes}
 use Rattle.state.specs.declared.Core.{Core}
 use Rattle.state.specs.Fresh.{start}
 use Rattle.polygons.specs.Buffers.{Buffered, buffered}
-use Rattle.engine.specs.Call.{machineOf, wordReply, portReply}
-use Rattle.feeding.specs.Feed.{Fed, feed}
+use Rattle.engine.specs.Call.{machineOf}
+use Rattle.feeding.specs.Feed.{Fed, feedAs}
 use Rattle.listing.specs.Text.{ascii, numberLine, refusedLine}
 use Rattle.readout.specs.Readout.{machineText}
 use Rattle.arguments.specs.declared.Source.{Source}
@@ -29,10 +27,6 @@ itemSize log = cond log 8 4
 -- 7: "log of odd length or over 8,192 words; list over 8,192 words; byte slice or file not whole words"
 unfoldable pub isInput : Bool → ℕ → Bool
 isInput log size = eqb (size % itemSize log) 0 && leb size 32768
-
--- every port write, or every word, until one is refused
-unfoldable pub feedAs : Bool → Machine (Buffered Core) → List ℕ → Fed (Buffered Core)
-feedAs log m ws = cond log (feed portReply m (writes ws)) (feed wordReply m ws)
 
 -- only after a refusal: its number, and which word or write it was
 unfoldable pub refusalText : ℕ → ℕ → List ℕ

@@ -8,13 +8,12 @@ ghost use Rattle.words.specs.Words.{over};
 ghost use Rattle.state.specs.Sound.{sound};
 ghost use Rattle.polygons.specs.Buffers.{longEnough};
 ghost use Rattle.engine.specs.Call.{machineOf};
-ghost use Rattle.feeding.specs.Feed.{fedOf};
+ghost use Rattle.feeding.specs.Feed.{feedAs, fedOf};
 ghost use Rattle.listing.specs.Buffer.{Puts};
-ghost use Rattle.replays.specs.Replay.{isInput, feedAs, refusalText, fedText, replay, replayAs, Reports};
+ghost use Rattle.replays.specs.Replay.{isInput, refusalText, fedText, replay, replayAs, Reports};
 use arguments::Source;
 use feeding::Fed;
-use feeding::feed_words;
-use feeding::feed_writes;
+use feeding::feed_as;
 use listing::put_bytes;
 use listing::put_number_line;
 use listing::put_refused;
@@ -38,17 +37,6 @@ fn is_input(log: bool, size: usize) -> bool
         return (size % 8 == 0) & (size <= 32768);
     }
     (size % 4 == 0) & (size <= 32768)
-}
-
-// Every word, or every port write, until one is refused.
-fn feed_as(log: bool, e: Engine, words: &[u32], vertices: &mut [i32], polygons: &mut [u32]) -> Fed
-    ensures { λ r. ⌜ fedOf r (now (vertices .exit)) (now (polygons .exit))
-        ≡ feedAs log (machineOf e (now (vertices .entry)) (now (polygons .entry))) (now (words .entry)) ⌝ }
-{
-    if log {
-        return feed_writes(e, words, &mut *vertices, &mut *polygons);
-    }
-    feed_words(e, words, &mut *vertices, &mut *polygons)
 }
 
 // The line of a refusal, where there was one.

@@ -5,7 +5,6 @@ use lib.ListN.{length}
 use Rattle.state.specs.declared.Core.{Core}
 use Rattle.polygons.specs.Buffers.{Buffered}
 use Rattle.feeding.specs.Feed.{Fed}
-use Rattle.replays.specs.Replay.{feedAs, fedText}
 use Rattle.replays.proofs.ReplayLaws.{RunKept, run-kept}
 use borrow.Author.Needs.{needs}
 use Rattle.replays.proofs.put_run.Statement.{statement}
