@@ -10,7 +10,5 @@ fn main() {
     println!("cargo:rustc-link-search=native={}", libraries.display());
     println!("cargo:rerun-if-changed=build.rs");
     println!("cargo:rerun-if-changed={}", libraries.join("libbridge.a").display());
-    if env::var_os("CARGO_FEATURE_FEEDING").is_some() {
-        println!("cargo:rerun-if-changed={}", libraries.join("libtiming.a").display());
-    }
+    println!("cargo:rerun-if-changed={}", libraries.join("libtiming.a").display());
 }

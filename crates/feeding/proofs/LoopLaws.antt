@@ -2,10 +2,11 @@
 use mathlib.Core.Bool.{Bool, true, false, and-eq-true-iff}
 use mathlib.Core.List.{List, _∷_}
 use mathlib.Core.Path.{_≡_, refl, sym, ap, subst, _∙_}
-use Prim.Native.Nat.{ℕ, _+_, _≤_, _<_}
+use Prim.Native.Nat.{ℕ, _+_, _-_, _/_, _%_, _≤_, _<_}
 use native.Mathlib.Omega.{arith}
 use lib.IntN.{ℤ}
 use lib.ListN.{length, getD, drop}
+use Rattle.words.specs.Words.{bytes}
 use Rattle.words.proofs.Over.{drop-next}
 use Rattle.stream.specs.Pending.{Pending, soundPending}
 use Rattle.stream.specs.Step.{Step, wordStep, portStep}
@@ -17,13 +18,14 @@ use Rattle.state.specs.declared.Engine.{Engine}
 use Rattle.state.specs.With.{answered}
 use Rattle.state.specs.Sound.{soundCore, pendingOf, soundStream, sound}
 use Rattle.polygons.specs.Buffers.{Buffered, buffered}
-use Rattle.execute.specs.Execute.{buffersLong}
-use Rattle.execute.proofs.Keeps.{long-enough-kept}
+use Rattle.execute.specs.Execute.{buffersLong, execute}
+use Rattle.execute.proofs.Keeps.{CoreKept, long-enough-kept}
 use Rattle.steps.specs.declared.Outcome.{Outcome}
-use Rattle.steps.specs.Outcome.{completedOf, stepOf}
+use Rattle.steps.specs.Outcome.{commandsWith, completedOf, stepOf}
 use Rattle.engine.specs.Call.{exec, coreSound, machineOf, wordReply, portReply}
 use Rattle.engine.specs.Inside.{firstNumber}
 use Rattle.engine.proofs.Calls.{Passed, passed, promised-first, refused-step, taken-step}
+use Rattle.engine.proofs.Run.{core-kept-more, none-run, one-run}
 use Rattle.engine.proofs.Keeps.{Kept, kept-at-first, kept-by-word, kept-by-port}
 use Rattle.feeding.specs.Feed.{Fed, fed, feed, feedAs}
 use Rattle.feeding.specs.Inside.{itemsIn, writeAt, stepAt}
@@ -156,3 +158,56 @@ module _ (e : Engine) (vertices : List ℤ) (polygons : List ℕ) (ws : List ℕ
       let m = machineOf e vertices polygons in
       one-refused wordReply (none-fed wordReply m ws) (getD ws 0 0) (drop-next ws 0 0 h) (reply n m)
       (promised-first wordStep e vertices polygons (getD ws 0 0) n (answered n e) told d refl .0) d
+
+-- ---- a turn of the loop
+
+-- i items are taken, and of the last one's commands `left` are to run, those of `commands`, on t
+pub record Turning (e : Engine) (vertices : List ℤ) (polygons : List ℕ) (log : Bool) (ws : List ℕ) (i : ℕ)
+    (held : List ℕ) (commands left : ℕ) (t : Buffered Core) (p : Pending) : Type 0 where
+  pub between : BetweenAs e vertices polygons log ws i (machine (run exec (commandsWith held (bytes left commands)) t) p)
+  pub kept : CoreKept (buffered (e .core) vertices polygons) t
+
+module _ (e : Engine) (vertices : List ℤ) (polygons : List ℕ)
+    (first : firstNumber e (length vertices) (length polygons) ≡ 0) (log : Bool) (ws : List ℕ) where
+  abbrev start : Buffered Core
+  start = buffered (e .core) vertices polygons
+
+  pub turning-first : (held : List ℕ) (commands : ℕ)
+      → Turning e vertices polygons log ws 0 held commands 0 start (pendingOf (e .stream))
+  turning-first held commands =
+      record {
+        between = first-as e vertices polygons first ws log;
+        kept = kept-at-first e vertices polygons (is-sound e vertices polygons first) .0;
+      }
+
+  module _ {i : ℕ} {held : List ℕ} {commands left : ℕ} {t : Buffered Core} {p : Pending}
+      (k : Turning e vertices polygons log ws i held commands left t p) where
+    pub core-long : buffersLong t ≡ true
+    core-long = long-enough-kept start t (k .kept) (is-passed e vertices polygons first .long)
+
+    -- the lowest command has run
+    pub turning-ran : 0 < left
+        → Turning e vertices polygons log ws i held (commands / 256) (left - 1) (execute (commands % 256) held t) p
+    turning-ran h =
+        let r = one-run held left commands t left commands t h
+        (none-run held left commands t (k .kept .sound) core-long) in
+        record {
+          between = rw (r .same) (k .between);
+          kept = core-kept-more start t (execute (commands % 256) held t) (k .kept) (r .kept);
+        }
+
+    -- none is left to run
+    pub all-ran : left ≡ 0 → BetweenAs e vertices polygons log ws i (machine t p)
+    all-ran z = rw z at (k .between)
+
+    -- so that the next item can be taken, and what it completes is to run
+    pub turning-next : left ≡ 0 → i < itemsIn log (length ws) → (o : Outcome) → stepOf o ≡ stepAt log p ws i
+        → o .number ≡ 0
+        → Turning e vertices polygons log ws (i + 1) (o .stream .held) (o .commands) (o .completed) t
+        (pendingOf (o .stream))
+    unfolding completedOf
+    turning-next z h o told n =
+        record {
+          between = goes-on-as e vertices polygons first ws log i (machine t p) (all-ran z) h o told n;
+          kept = k .kept;
+        }

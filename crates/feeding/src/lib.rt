@@ -13,7 +13,11 @@ ghost use Rattle.feeding.specs.Feed.{feed, feedAs, fedOf};
 ghost use Rattle.feeding.specs.Inside.{itemsIn, stepAt};
 use commands::parameter_table;
 use engine::first_number;
-use engine::run_commands;
+use execute::Operation;
+use execute::operation_of;
+use execute::run_registers;
+use execute::run_stacks;
+use state::Core;
 use state::Engine;
 use state::Stream;
 use steps::Outcome;
@@ -57,8 +61,24 @@ fn step_at(table: &[u8; 256], log: bool, s: Stream, words: &[u32], i: usize) -> 
     word_step(table, s, words[i])
 }
 
-// Item after item on an engine on which numbers 1 and 2 do not fall: then they fall at no item, so that neither is
-// tested again, and the core is moved only where a command is complete.
+// What a feed answers that stops between two items.
+fn stopped(taken: usize, number: u32, core: Core, stream: Stream) -> Fed
+    ensures { λ r. ⌜ r
+        ≡ record { taken = taken; number = number; engine = record { core = core; stream = stream } } ⌝ }
+{
+    Fed {
+        taken: taken,
+        number: number,
+        engine: Engine {
+            core: core,
+            stream: stream,
+        },
+    }
+}
+
+// Item after item on an engine on which numbers 1 and 2 do not fall: then they fall at no item, and neither is tested
+// again. A turn runs the next command that is complete, the lowest of the `left` lowest bytes of `commands`, or takes an
+// item; the core stays where it is.
 fn feed_sound(
     table: &[u8; 256],
     log: bool,
@@ -75,41 +95,36 @@ fn feed_sound(
     let count = items_in(log, words.len());
     let mut core = e.core;
     let mut stream = e.stream;
+    let mut commands = 0;
+    let mut left: usize = 0;
     let mut i = 0;
-    while i < count {
-        let step = step_at(table, log, stream, words, i);
-        if step.number != 0 {
-            return Fed {
-                taken: i,
-                number: step.number,
-                engine: Engine {
-                    core: core,
-                    stream: stream,
-                },
-            };
-        }
-        stream = step.stream;
-        i += 1;
-        if step.completed == 0 {
+    loop {
+        if 0 < left {
+            let held = stream.held;
+            match operation_of((commands % 256) as u8) {
+                Operation::Stack(k) => {
+                    core = run_stacks(core, k, held[0]);
+                }
+                Operation::Register(k) => {
+                    let r = core.registers;
+                    core.registers = run_registers(r, k, held, &mut *vertices, &mut *polygons);
+                }
+            }
+            commands = commands / 256;
+            left -= 1;
             continue;
         }
-        let held = stream.held;
-        core = run_commands(
-            core,
-            step.commands,
-            step.completed,
-            held,
-            &mut *vertices,
-            &mut *polygons,
-        );
-    }
-    Fed {
-        taken: count,
-        number: 0,
-        engine: Engine {
-            core: core,
-            stream: stream,
-        },
+        if count <= i {
+            return stopped(count, 0, core, stream);
+        }
+        let step = step_at(table, log, stream, words, i);
+        if step.number != 0 {
+            return stopped(i, step.number, core, stream);
+        }
+        stream = step.stream;
+        commands = step.commands;
+        left = step.completed;
+        i += 1;
     }
 }
 

@@ -8,24 +8,44 @@ use crate::row;
 
 #[link(name = "timing", kind = "static")]
 extern "C" {
-    fn timing_feed_words(list: *const u8, list_size: usize, turns: u32) -> u32;
-    fn timing_feed_writes(log: *const u8, log_size: usize, turns: u32) -> u32;
+    fn timing_feed(
+        log: bool,
+        input: *const u8,
+        input_size: usize,
+        vertices: *mut i32,
+        vertex_numbers: usize,
+        polygons: *mut u32,
+        polygon_numbers: usize,
+    ) -> usize;
+}
+
+/// How many words of a list, or port writes of a log, the library takes.
+fn fed(log: bool, input: &[u8], lent: &mut Lent) -> usize {
+    let buffers = lent.buffers();
+    let (vertices, polygons) = (buffers.vertices, buffers.polygons);
+    unsafe {
+        timing_feed(
+            log,
+            input.as_ptr(),
+            input.len(),
+            vertices.as_mut_ptr(),
+            vertices.len(),
+            polygons.as_mut_ptr(),
+            polygons.len(),
+        )
+    }
 }
 
 pub fn time(sample: &Sample) {
     let (list, log) = (&sample.list, &sample.log);
-    let mut lent = Lent::new();
+    let (mut ours, mut theirs) = (Lent::new(), Lent::new());
     row(
         sample.name,
         "feed words",
         list.len() / 4,
+        || assert_eq!(fed(false, black_box(list), &mut ours), list.len() / 4),
         || {
-            let taken = unsafe { timing_feed_words(black_box(list).as_ptr(), list.len(), 1) };
-            assert_eq!(taken as usize, list.len() / 4);
-        },
-        || {
-            lent.clear();
-            let (taken, _) = engine().feed_words(black_box(list), &mut lent.buffers());
+            let (taken, _) = engine().feed_words(black_box(list), &mut theirs.buffers());
             assert_eq!(taken, list.len() / 4);
         },
     );
@@ -33,13 +53,9 @@ pub fn time(sample: &Sample) {
         sample.name,
         "feed writes",
         log.len() / 8,
+        || assert_eq!(fed(true, black_box(log), &mut ours), log.len() / 8),
         || {
-            let taken = unsafe { timing_feed_writes(black_box(log).as_ptr(), log.len(), 1) };
-            assert_eq!(taken as usize, log.len() / 8);
-        },
-        || {
-            lent.clear();
-            let (taken, _) = engine().feed_writes(black_box(log), &mut lent.buffers());
+            let (taken, _) = engine().feed_writes(black_box(log), &mut theirs.buffers());
             assert_eq!(taken, log.len() / 8);
         },
     );

@@ -17,12 +17,6 @@ impl Lent {
     pub fn buffers(&mut self) -> Buffers<'_> {
         Buffers { vertices: &mut self.vertices, polygons: &mut self.polygons }
     }
-
-    #[cfg(feature = "feeding")]
-    pub fn clear(&mut self) {
-        self.vertices.fill(0);
-        self.polygons.fill(0);
-    }
 }
 
 pub fn engine() -> Engine {

@@ -1,7 +1,6 @@
 //! Times the compiled library and the reference in one run, on the same inputs, in one thread.
 
 mod by_value;
-#[cfg(feature = "feeding")]
 mod feeding;
 mod inputs;
 mod lent;
@@ -35,13 +34,12 @@ fn main() {
         "  For these three every turn starts an engine; the buffers are not cleared. The library's calls test the"
     );
     println!("  record that they are given; the reference's engine is sound by its type.");
-    println!("feed: a whole list or log in one call; every turn starts an engine and clears both its buffers.\n");
+    println!("feed: a whole list or log in one call; every turn starts an engine; the buffers are not cleared.\n");
     println!("{:<18}{:<16}{:>10}{:>10}{:>8}", "kind", "what", "library", "reference", "ratio");
     for sample in inputs::samples() {
         time_pack(&sample);
         time_unpack(&sample);
         by_value::time(&sample);
-        #[cfg(feature = "feeding")]
         feeding::time(&sample);
     }
 }
