@@ -211,3 +211,9 @@ module _ (e : Engine) (vertices : List ℤ) (polygons : List ℕ)
           between = goes-on-as e vertices polygons first ws log i (machine t p) (all-ran z) h o told n;
           kept = k .kept;
         }
+
+    -- the lowest command, as a run of one
+    pub one-command : run exec (commandsWith held (bytes 1 commands)) t ≡ execute (commands % 256) held t
+    one-command =
+        sym (one-run held 1 commands t 1 commands t (omega arith)
+        (none-run held 1 commands t (k .kept .sound) core-long) .same)

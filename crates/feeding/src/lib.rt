@@ -13,10 +13,10 @@ ghost use Rattle.feeding.specs.Feed.{feed, feedAs, fedOf};
 ghost use Rattle.feeding.specs.Inside.{itemsIn, stepAt};
 use commands::parameter_table;
 use engine::first_number;
+use engine::run_commands;
 use execute::Operation;
 use execute::operation_of;
 use execute::run_registers;
-use execute::run_stacks;
 use state::Core;
 use state::Engine;
 use state::Stream;
@@ -102,8 +102,8 @@ fn feed_sound(
         if 0 < left {
             let held = stream.held;
             match operation_of((commands % 256) as u8) {
-                Operation::Stack(k) => {
-                    core = run_stacks(core, k, held[0]);
+                Operation::Stack(_) => {
+                    core = run_commands(core, commands, 1, held, &mut *vertices, &mut *polygons);
                 }
                 Operation::Register(k) => {
                     let r = core.registers;

@@ -16,7 +16,7 @@ use Rattle.execute.specs.Execute.{runOperation, execute}
 use Rattle.feeding.specs.declared.Fed.{Fed as FedAnswer}
 use Rattle.feeding.specs.Feed.{fedOf}
 use Rattle.feeding.specs.Inside.{itemsIn}
-use Rattle.feeding.proofs.LoopLaws.{Turning, turning-first, core-long, turning-ran, all-ran, turning-next, kept-as, stops-as, ends-as}
+use Rattle.feeding.proofs.LoopLaws.{Turning, turning-first, core-long, one-command, turning-ran, all-ran, turning-next, kept-as, stops-as, ends-as}
 use borrow.Author.Needs.{needs}
 use Rattle.feeding.proofs.feed_sound.Statement.{statement}
 use Rattle.feeding.proofs.feed_sound.Tie as tie
@@ -52,11 +52,12 @@ unfolding execute runOperation
 ran c =
     let at = c .before .before .before .before in
     let l = at .loop in
+    let start = at .before .before .before .before .before .before in
+    let a = start .args in
     let decoded = c .before .operation-of .ensures in
     ⊎-elim
-    (λ w. (λ t. buffered (w .6 t) (w .4 t) (w .5 t))
-    ∙ ap (λ (core : Core). buffered core (l .vertices) (l .polygons)) (w .3 .ensures)
-    ∙ sym (ap (by-operation at) (sym decoded ∙ w .1 .given .1)))
+    (λ w. (λ t. buffered (w .10 t) (w .8 t) (w .9 t)) ∙ w .4 .ensures
+    ∙ one-command (a .e) (a .vertices .now) (a .polygons .now) (start .pre .1) (a .log) (a .words .now) (l .inv))
     (λ w. (λ t. buffered (w .12 t) (w .10 t) (w .11 t))
     ∙ ap (λ (e : Buffered Registers). beside e (withRegisters (l .core) (e .part))) (w .6 .ensures)
     ∙ sym (ap (by-operation at) (sym decoded ∙ w .1 .given .1)))
@@ -77,17 +78,19 @@ cast-operation-of c = search needs
 operation-of-requires : tie.Need-operation-of-requires Inv-loop μ-loop
 operation-of-requires c κs = search needs
 
+enum-told : tie.Need-enum-told Inv-loop μ-loop
+enum-told c = search needs
+
+run-commands-requires : tie.Need-run-commands-requires Inv-loop μ-loop
+run-commands-requires c κs =
+    let at = c .before .before .before .before .before .before .before in
+    let l = at .loop in
+    let start = at .before .before .before .before .before .before in
+    let a = start .args in
+    (l .inv .kept .sound, core-long (a .e) (a .vertices .now) (a .polygons .now) (start .pre .1) (a .log) (a .words .now) (l .inv))
+
 enum-known-k : tie.Need-enum-known-k Inv-loop μ-loop
 enum-known-k c = search needs
-
-array-read-run-stacks : tie.Need-array-read-run-stacks Inv-loop μ-loop
-array-read-run-stacks c = search needs
-
-run-stacks-requires : tie.Need-run-stacks-requires Inv-loop μ-loop
-run-stacks-requires c κs = c .before .before .before .before .before .before .loop .inv .kept .sound
-
-enum-known-k-2 : tie.Need-enum-known-k-2 Inv-loop μ-loop
-enum-known-k-2 c = search needs
 
 run-registers-requires : tie.Need-run-registers-requires Inv-loop μ-loop
 run-registers-requires c κs =
@@ -195,10 +198,9 @@ feed-sound-spec =
     loop-holds
     cast-operation-of
     operation-of-requires
+    enum-told
+    run-commands-requires
     enum-known-k
-    array-read-run-stacks
-    run-stacks-requires
-    enum-known-k-2
     run-registers-requires
     sub-left
     loop-less
