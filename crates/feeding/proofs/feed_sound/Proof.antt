@@ -35,7 +35,7 @@ inside : (c : tie.Else2 Inv-loop μ-loop) → let a = c .before .before .before 
     c .before .before .loop .i < itemsIn (a .log) (length (a .words .now))
 inside c =
     let more : c .before .before .loop .i < c .before .before .before .before .before .items-in .result =
-        omega (arith, c .if2 .left) in
+    omega (arith, c .if2 .left) in
     rw (c .before .before .before .before .before .items-in .ensures) at more
 
 -- what a turn runs where the operation is k

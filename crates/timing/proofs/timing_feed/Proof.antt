@@ -45,9 +45,13 @@ returns-2 c =
     let a = started .before .before .before .args in
     let told = fed .feed-as .ensures
     ∙ whole (a .log) (a .input .now) (a .vertices .now) (a .polygons .now) (omega (arith, made .before .if1 .left))
-    (started .start .result) (started .start .ensures) _ (made .words-of .ensures) in
-    (ap (λ (f : Fed (Buffered Core)). f .taken) told, (ap (λ (f : Fed (Buffered Core)). f .left .state .vertices) told,
-    ap (λ (f : Fed (Buffered Core)). f .left .state .polygons) told))
+    (started .start .result) (started .start .ensures) _ (made .words-of .ensures) in (
+      ap (λ (f : Fed (Buffered Core)). f .taken) told,
+      (
+        ap (λ (f : Fed (Buffered Core)). f .left .state .vertices) told,
+        ap (λ (f : Fed (Buffered Core)). f .left .state .polygons) told,
+      ),
+    )
 
 pub timing-feed-spec : {M : Type 1} → statement M
 timing-feed-spec =
