@@ -16,10 +16,10 @@ use Rattle.records.specs.declared.EngineRecord.{EngineRecord}
 use Rattle.records.specs.Record.{engineOf, recordOf}
 use Rattle.records.proofs.RecordLaws.{engine-back, record-back, record-has-list}
 use Rattle.bridge.specs.declared.RecordAnswer.{RecordAnswer}
-use Rattle.bridge.specs.Engine.{recordAnswerOf, answerOf, notSound, hasList, recordReply, Called}
+use Rattle.bridge.specs.Engine.{recordAnswerOf, engineAnswerOf, notSound, hasList, recordReply, Called}
 
 -- the answer that a record's answer stands for
-answer-back : (x : Answer) → answerOf (recordAnswerOf x) ≡ x
+answer-back : (x : Answer) → engineAnswerOf (recordAnswerOf x) ≡ x
 answer-back x = rw (engine-back (x .engine))
 
 module _ {A : Type 0} (call : Machine (Buffered Core) → A → Reply (Buffered Core)) (e : EngineRecord) (a : A)

@@ -18,8 +18,8 @@ use Rattle.bridge.specs.declared.RecordAnswer.{RecordAnswer}
 abbrev pub recordAnswerOf : Answer → RecordAnswer
 recordAnswerOf a = record { number = a .number; place = a .place; engine = recordOf (a .engine) }
 
-abbrev pub answerOf : RecordAnswer → Answer
-answerOf r = record { number = r .number; place = r .place; engine = engineOf (r .engine) }
+abbrev pub engineAnswerOf : RecordAnswer → Answer
+engineAnswerOf r = record { number = r .number; place = r .place; engine = engineOf (r .engine) }
 
 -- number 1, and the record that was given
 abbrev pub notSound : EngineRecord → RecordAnswer
@@ -41,7 +41,7 @@ module _ {A : Type 0} (call : Machine (Buffered Core) → A → Reply (Buffered 
   pub record Called (e : EngineRecord) (a : A) (r : RecordAnswer) (vertices : List ℤ) (polygons : List ℕ)
       (vs : List ℤ) (ps : List ℕ) : Type 0 where
     -- number, place, engine, and every number of both buffers
-    pub replied : replyOf (answerOf r) vs ps ≡ recordReply e a vertices polygons
+    pub replied : replyOf (engineAnswerOf r) vs ps ≡ recordReply e a vertices polygons
     -- "A refused call changes nothing": every cell of the record comes back as it was given
     pub given-back : (r .number ≡ 0 → ⊥) → r .engine ≡ e
     -- the list of an accepted call's record has a number that stands for it

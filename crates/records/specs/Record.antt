@@ -10,18 +10,18 @@ use Rattle.records.specs.List.{listOf, numberOf}
 
 -- ---- the engine of a record
 
-abbrev pub waitingOf : WaitingRecord → Waiting
-waitingOf r =
+abbrev pub waitingFrom : WaitingRecord → Waiting
+waitingFrom r =
     record { list = listOf (r .list); first = r .first; second = r .second; third = r .third; count = r .count }
 
-abbrev pub geometryOf : GeometryRecord → Geometry
-geometryOf r =
+abbrev pub geometryFrom : GeometryRecord → Geometry
+geometryFrom r =
     record {
       colour = r .colour;
       given = r .given;
       attributes = r .attributes;
       position = r .position;
-      waiting = waitingOf (r .waiting);
+      waiting = waitingFrom (r .waiting);
       used = r .used;
       rooms = r .rooms;
       overflow = r .overflow;
@@ -31,7 +31,7 @@ unfoldable pub engineOf : EngineRecord → Engine
 engineOf r =
     record {
       core = record {
-        registers = record { transform = r .transform; geometry = geometryOf (r .geometry) };
+        registers = record { transform = r .transform; geometry = geometryFrom (r .geometry) };
         stacks = r .stacks;
       };
       stream = r .stream;

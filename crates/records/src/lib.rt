@@ -2,7 +2,7 @@
 // between it and the engine.
 ghost use mathlib.Core.Path.{_≡_};
 ghost use Rattle.records.specs.List.{isList, listOf, numberOf};
-ghost use Rattle.records.specs.Record.{waitingOf, waitingRecord, geometryOf, geometryRecord};
+ghost use Rattle.records.specs.Record.{waitingFrom, waitingRecord, geometryFrom, geometryRecord};
 ghost use Rattle.records.specs.Record.{engineOf, recordOf};
 use state::Coordinates;
 use state::Core;
@@ -83,7 +83,7 @@ fn number_of(list: OpenList) -> u32
 }
 
 fn waiting_of(r: WaitingRecord) -> Waiting
-    ensures { λ w. ⌜ w ≡ waitingOf r ⌝ }
+    ensures { λ w. ⌜ w ≡ waitingFrom r ⌝ }
 {
     let first = r.first;
     let second = r.second;
@@ -114,7 +114,7 @@ fn waiting_record(w: Waiting) -> WaitingRecord
 }
 
 fn geometry_of(r: GeometryRecord) -> Geometry
-    ensures { λ g. ⌜ g ≡ geometryOf r ⌝ }
+    ensures { λ g. ⌜ g ≡ geometryFrom r ⌝ }
 {
     let position = r.position;
     let waiting = r.waiting;
