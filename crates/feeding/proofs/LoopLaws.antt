@@ -72,11 +72,13 @@ module _ (e : Engine) (vertices : List ℤ) (polygons : List ℕ)
       (keeps : (n : Machine (Buffered Core)) (a : A) → Kept e vertices polygons n
       → Kept e vertices polygons (callBy exec coreSound buffersLong step n a .left))
       (ws : List A) (i : ℕ) (n : Machine (Buffered Core))
-      (b : Between e vertices polygons (callBy exec coreSound buffersLong step) ws i n) (a : A) (next : drop i ws ≡ a ∷ drop (i + 1) ws)
+      (b : Between e vertices polygons (callBy exec coreSound buffersLong step) ws i n) (a : A)
+      (next : drop i ws ≡ a ∷ drop (i + 1) ws)
       (o : Outcome) (told : stepOf o ≡ step (n .pending) a) where
     called : callBy exec coreSound buffersLong step n a ≡ afterStep exec n (stepOf o)
     called =
-        usable-call step n a (b .kept .0 .sound) (b .kept .1) (still-long n (b .kept)) ∙ ap (afterStep exec n) (sym told)
+        usable-call step n a (b .kept .0 .sound) (b .kept .1) (still-long n (b .kept)) ∙ ap (afterStep exec n)
+        (sym told)
 
     -- it is refused
     stops : (o .number ≡ 0 → ⊥) → fed i (o .number) n ≡ feed (callBy exec coreSound buffersLong step) m ws
@@ -100,10 +102,16 @@ module _ (e : Engine) (vertices : List ℤ) (polygons : List ℕ)
 
   module _ (ws : List ℕ) where
     pub first-as : (log : Bool) → BetweenAs e vertices polygons log ws 0 m
-    first-as true = record { feeding = none-fed portReply m (writes ws); kept = kept-at-first e vertices polygons is-sound }
-    first-as false = record { feeding = none-fed wordReply m ws; kept = kept-at-first e vertices polygons is-sound }
+    first-as true =
+        record {
+          feeding = none-fed portReply m (writes ws);
+          kept = kept-at-first e vertices polygons is-sound;
+        }
+    first-as false =
+        record { feeding = none-fed wordReply m ws; kept = kept-at-first e vertices polygons is-sound }
 
-    pub kept-as : (log : Bool) (i : ℕ) (n : Machine (Buffered Core)) → BetweenAs e vertices polygons log ws i n → Kept e vertices polygons n
+    pub kept-as : (log : Bool) (i : ℕ) (n : Machine (Buffered Core)) → BetweenAs e vertices polygons log ws i n → Kept
+        e vertices polygons n
     kept-as true i n b = b .kept
     kept-as false i n b = b .kept
 
@@ -118,14 +126,16 @@ module _ (e : Engine) (vertices : List ℤ) (polygons : List ℕ)
 
     pub goes-on-as : (log : Bool) (i : ℕ) (n : Machine (Buffered Core)) → BetweenAs e vertices polygons log ws i n
         → i < itemsIn log (length ws) → (o : Outcome) → stepOf o ≡ stepAt log (n .pending) ws i → o .number ≡ 0
-        → BetweenAs e vertices polygons log ws (i + 1) (machine (run exec (completedOf o) (n .state)) (pendingOf (o .stream)))
+        → BetweenAs e vertices polygons log ws (i + 1) (machine (run exec (completedOf o) (n .state))
+        (pendingOf (o .stream)))
     unfolding stepAt
     goes-on-as true i n b h o =
         goes-on portStep (kept-by-port e vertices polygons) (writes ws) i n b (writeAt ws i) (next-write ws i h) o
     goes-on-as false i n b h o =
         goes-on wordStep (kept-by-word e vertices polygons) ws i n b (getD ws i 0) (drop-next ws i 0 h) o
 
-    pub ends-as : (log : Bool) (i : ℕ) (n : Machine (Buffered Core)) → BetweenAs e vertices polygons log ws i n → (count : ℕ)
+    pub ends-as : (log : Bool) (i : ℕ) (n : Machine (Buffered Core)) → BetweenAs e vertices polygons log ws i n →
+        (count : ℕ)
         → count ≡ itemsIn log (length ws) → count ≤ i → fed count 0 n ≡ feedAs log m ws
     unfolding feedAs
     ends-as true i n b count e h = all-fed portReply (b .feeding) count (e ∙ sym (length-writes ws)) h
@@ -164,7 +174,8 @@ module _ (e : Engine) (vertices : List ℤ) (polygons : List ℕ) (ws : List ℕ
 -- i items are taken, and of the last one's commands `left` are to run, those of `commands`, on t
 pub record Turning (e : Engine) (vertices : List ℤ) (polygons : List ℕ) (log : Bool) (ws : List ℕ) (i : ℕ)
     (held : List ℕ) (commands left : ℕ) (t : Buffered Core) (p : Pending) : Type 0 where
-  pub between : BetweenAs e vertices polygons log ws i (machine (run exec (commandsWith held (bytes left commands)) t) p)
+  pub between : BetweenAs e vertices polygons log ws i (machine (run exec (commandsWith held (bytes left commands)) t)
+      p)
   pub kept : CoreKept (buffered (e .core) vertices polygons) t
 
 module _ (e : Engine) (vertices : List ℤ) (polygons : List ℕ)

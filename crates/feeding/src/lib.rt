@@ -77,8 +77,8 @@ fn stopped(taken: usize, number: u32, core: Core, stream: Stream) -> Fed
 }
 
 // Item after item on an engine on which numbers 1 and 2 do not fall: then they fall at no item, and neither is tested
-// again. A turn runs the next command that is complete, the lowest of the `left` lowest bytes of `commands`, or takes an
-// item; the core stays where it is.
+// again. A turn runs the next command that is complete, the lowest of the `left` lowest bytes of `commands`, or takes
+// an item. The core stays where it is but for stack commands, which move it.
 fn feed_sound(
     table: &[u8; 256],
     log: bool,

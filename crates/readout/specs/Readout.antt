@@ -106,7 +106,8 @@ polygonsText n buffer = numberLine (ascii "polygons ") n ++ polygonLines (groups
 
 -- the registers, and whether a command is pending
 unfoldable pub registersText : Registers → Pending → List ℕ
-registersText r p = transformText (r .transform) ++ geometryText (r .geometry) ++ pendingLine p ++ matricesText (r .transform)
+registersText r p = transformText (r .transform) ++ geometryText (r .geometry) ++ pendingLine p ++ matricesText
+    (r .transform)
 
 -- the vertices that wait, then what the caller's buffers hold, as much as is used
 unfoldable pub listsText : Geometry → List ℤ → List ℕ → List ℕ

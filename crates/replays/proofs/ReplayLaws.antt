@@ -98,7 +98,8 @@ pub always-long : (e : Engine) → sound e ≡ true
 unfolding longEnough
 always-long e h =
     let g = e .core .registers .geometry in
-    let limits = room-limits (g .rooms .vertices) (g .rooms .polygons) (geometry-ranges g (sound-parts e h .geometry) .rooms) in
+    let limits = room-limits (g .rooms .vertices) (g .rooms .polygons)
+    (geometry-ranges g (sound-parts e h .geometry) .rooms) in
     simp (
       le-leb (5 * g .rooms .vertices) 30720 (omega (arith, limits .0)),
       le-leb (3 * g .rooms .polygons) 6144 (omega (arith, limits .1)),

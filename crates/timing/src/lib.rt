@@ -1,5 +1,5 @@
-// What the benchmark measures of feeding, as an entry for Rust: a whole list or log fed to a started engine in one call.
-// The product has no such entry yet; `checks/rust` links it for its benchmark alone.
+// What the benchmark measures of feeding, as an entry for Rust: a whole list or log fed to a started engine in one
+// call. The product has no such entry yet; `checks/rust` links it for its benchmark alone.
 ghost use mathlib.Core.Path.{_≡_};
 ghost use Rattle.feeding.specs.Feed.{Fed};
 ghost use Rattle.timing.specs.Timed.{timed};

@@ -22,16 +22,19 @@ use Rattle.feeding.proofs.feed_sound.Statement.{statement}
 use Rattle.feeding.proofs.feed_sound.Tie as tie
 
 abbrev Inv-loop : tie.InvT-loop
-Inv-loop table log words vertices₀ polygons₀ count core₀ stream₀ commands₀ left₀ i₀ vertices polygons core stream commands left i =
+Inv-loop table log words vertices₀ polygons₀ count core₀ stream₀ commands₀ left₀ i₀ vertices polygons core stream
+    commands left i =
     Turning (record { core = core₀; stream = stream₀ }) vertices₀ polygons₀ log words i (stream .held) commands left
     (buffered core vertices polygons) (pendingOf stream)
 
 abbrev μ-loop : tie.MeasureT-loop
-μ-loop table log words vertices₀ polygons₀ count core₀ stream₀ commands₀ left₀ i₀ vertices polygons core stream commands left i =
+μ-loop table log words vertices₀ polygons₀ count core₀ stream₀ commands₀ left₀ i₀ vertices polygons core stream
+    commands left i =
     2 ^ 64 * (count - i) + left
 
 -- an item is to come
-inside : (c : tie.Else2 Inv-loop μ-loop) → let a = c .before .before .before .before .before .before .before .before .args in
+inside : (c : tie.Else2 Inv-loop μ-loop) → let a =
+    c .before .before .before .before .before .before .before .before .args in
     c .before .before .loop .i < itemsIn (a .log) (length (a .words .now))
 inside c =
     let more : c .before .before .loop .i < c .before .before .before .before .before .items-in .result =
@@ -70,7 +73,8 @@ loop-holds : tie.Need-loop-holds Inv-loop μ-loop
 loop-holds c =
     let start = c .before .before .before .before .before in
     let a = start .args in
-    turning-first (a .e) (a .vertices .now) (a .polygons .now) (start .pre .1) (a .log) (a .words .now) (a .e .stream .held) 0
+    turning-first (a .e) (a .vertices .now) (a .polygons .now) (start .pre .1) (a .log) (a .words .now)
+    (a .e .stream .held) 0
 
 cast-operation-of : tie.Need-cast-operation-of Inv-loop μ-loop
 cast-operation-of c = search needs
@@ -86,8 +90,11 @@ run-commands-requires c κs =
     let at = c .before .before .before .before .before .before .before in
     let l = at .loop in
     let start = at .before .before .before .before .before .before in
-    let a = start .args in
-    (l .inv .kept .sound, core-long (a .e) (a .vertices .now) (a .polygons .now) (start .pre .1) (a .log) (a .words .now) (l .inv))
+    let a = start .args in (
+      l .inv .kept .sound,
+      core-long (a .e) (a .vertices .now) (a .polygons .now) (start .pre .1) (a .log)
+          (a .words .now) (l .inv),
+    )
 
 enum-known-k : tie.Need-enum-known-k Inv-loop μ-loop
 enum-known-k c = search needs
@@ -97,8 +104,11 @@ run-registers-requires c κs =
     let at = c .before .before .before .before .before .before .before .before .before in
     let l = at .loop in
     let start = at .before .before .before .before .before .before in
-    let a = start .args in
-    (core-parts _ (l .inv .kept .sound) .1, core-long (a .e) (a .vertices .now) (a .polygons .now) (start .pre .1) (a .log) (a .words .now) (l .inv))
+    let a = start .args in (
+      core-parts _ (l .inv .kept .sound) .1,
+      core-long (a .e) (a .vertices .now) (a .polygons .now) (start .pre .1)
+          (a .log) (a .words .now) (l .inv),
+    )
 
 sub-left : tie.Need-sub-left Inv-loop μ-loop
 sub-left c = omega (arith, c .before .before .before .if1 .taken)
@@ -112,7 +122,8 @@ loop-again c =
     let l = at .loop in
     let start = at .before .before .before .before .before .before in
     let a = start .args in
-    rw (ran c) (turning-ran (a .e) (a .vertices .now) (a .polygons .now) (start .pre .1) (a .log) (a .words .now) (l .inv) (c .before .before .before .if1 .taken))
+    rw (ran c) (turning-ran (a .e) (a .vertices .now) (a .polygons .now) (start .pre .1) (a .log) (a .words .now)
+    (l .inv) (c .before .before .before .if1 .taken))
 
 stopped-requires : tie.Need-stopped-requires Inv-loop μ-loop
 stopped-requires c κs = search needs
@@ -133,7 +144,8 @@ returns c =
     ap (λ (r : FedAnswer). fedOf r (l .vertices) (l .polygons)) (c .stopped .ensures)
     ∙ ends-as (a .e) (a .vertices .now) (a .polygons .now) (start .pre .1) (a .words .now) (a .log) (l .i)
     (machine (buffered (l .core) (l .vertices) (l .polygons)) (pendingOf (l .stream)))
-    (all-ran (a .e) (a .vertices .now) (a .polygons .now) (start .pre .1) (a .log) (a .words .now) (l .inv) none) _ (at .before .before .before .items-in .ensures) (c .before .if2 .taken)
+    (all-ran (a .e) (a .vertices .now) (a .polygons .now) (start .pre .1) (a .log) (a .words .now) (l .inv) none) _
+    (at .before .before .before .items-in .ensures) (c .before .if2 .taken)
 
 step-at-requires : tie.Need-step-at-requires Inv-loop μ-loop
 unfolding soundStream
@@ -168,11 +180,16 @@ returns-2 c =
     ap (λ (r : FedAnswer). fedOf r (l .vertices) (l .polygons)) (c .stopped2 .ensures)
     ∙ stops-as (a .e) (a .vertices .now) (a .polygons .now) (start .pre .1) (a .words .now) (a .log) (l .i)
     (machine (buffered (l .core) (l .vertices) (l .polygons)) (pendingOf (l .stream)))
-    (all-ran (a .e) (a .vertices .now) (a .polygons .now) (start .pre .1) (a .log) (a .words .now) (l .inv) none) (inside (called .before)) (called .step-at .result) (called .step-at .ensures)
-    (c .before .if3 .taken)
+    (all-ran (a .e) (a .vertices .now) (a .polygons .now) (start .pre .1) (a .log) (a .words .now) (l .inv) none)
+    (inside (called .before)) (called .step-at .result) (called .step-at .ensures)
+    (λ z. omega (arith, z, c .before .if3 .taken))
 
 add-i : tie.Need-add-i Inv-loop μ-loop
-add-i c = omega (arith, c .before .before .before .before .if2 .left, c .before .before .before .before .before .before .before .before .before .before .before .before .good .1 .1 .1 .0)
+add-i c = omega (
+  arith,
+  c .before .before .before .before .if2 .left,
+  c .before .before .before .before .before .before .before .before .before .before .before .before .good .1 .1 .1 .0,
+)
 
 loop-less-2 : tie.Need-loop-less-2 Inv-loop μ-loop
 loop-less-2 c = omega (arith, c .before .before .before .before .if2 .left, c .before .before .struct-known .given)
@@ -185,7 +202,8 @@ loop-again-2 c =
     let a = start .args in
     let called = c .before .before .before in
     let none : l .left ≡ 0 = omega (arith, called .before .before .if1 .left) in
-    turning-next (a .e) (a .vertices .now) (a .polygons .now) (start .pre .1) (a .log) (a .words .now) (l .inv) none (inside (called .before)) (called .step-at .result) (called .step-at .ensures)
+    turning-next (a .e) (a .vertices .now) (a .polygons .now) (start .pre .1) (a .log) (a .words .now) (l .inv) none
+    (inside (called .before)) (called .step-at .result) (called .step-at .ensures)
     (c .before .if3 .left)
 
 pub feed-sound-spec : {M : Type 1} → statement M

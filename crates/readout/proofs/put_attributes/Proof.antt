@@ -39,7 +39,8 @@ returns c =
     let bytes2 = word .before .before .before .before in
     let hex = bytes2 .before .before .before .before .before in
     let bytes = hex .before .before .before .before in
-    puts-both (puts-both (puts-both (bytes .put-bytes .ensures) (hex .put-hex .ensures)) (bytes2 .put-bytes2 .ensures)) (word .put-word-line .ensures)
+    puts-both (puts-both (puts-both (bytes .put-bytes .ensures) (hex .put-hex .ensures))
+    (bytes2 .put-bytes2 .ensures)) (word .put-word-line .ensures)
 
 pub put-attributes-spec : {M : Type 1} → statement M
 put-attributes-spec =

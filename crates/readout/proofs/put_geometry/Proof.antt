@@ -27,14 +27,25 @@ put-attributes-requires : tie.Need-put-attributes-requires
 put-attributes-requires c κs =
     let number = c .before .before .before in
     let flag = number .before .before .before .before .before in
-    omega (arith, number-line-end (ascii "colour ") _ (number .put-number-line .ensures), number-line-end (ascii "overflow ") _ (flag .put-flag-line .ensures))
+    omega (
+      arith,
+      number-line-end (ascii "colour ") _ (number .put-number-line .ensures),
+      number-line-end
+          (ascii "overflow ") _ (flag .put-flag-line .ensures),
+    )
 
 put-position-requires : tie.Need-put-position-requires
 put-position-requires c κs =
     let attributes = c .before .before .before in
     let number = attributes .before .before .before .before in
     let flag = number .before .before .before .before .before in
-    omega (arith, attributes-end _ _ (attributes .put-attributes .ensures), number-line-end (ascii "colour ") _ (number .put-number-line .ensures), number-line-end (ascii "overflow ") _ (flag .put-flag-line .ensures))
+    omega (
+      arith,
+      attributes-end _ _ (attributes .put-attributes .ensures),
+      number-line-end (ascii "colour ") _
+          (number .put-number-line .ensures),
+      number-line-end (ascii "overflow ") _ (flag .put-flag-line .ensures),
+    )
 
 put-list-requires : tie.Need-put-list-requires
 put-list-requires c κs =
@@ -42,7 +53,14 @@ put-list-requires c κs =
     let attributes = position .before .before .before .before in
     let number = attributes .before .before .before .before in
     let flag = number .before .before .before .before .before in
-    omega (arith, position-end _ (position .put-position .ensures), attributes-end _ _ (attributes .put-attributes .ensures), number-line-end (ascii "colour ") _ (number .put-number-line .ensures), number-line-end (ascii "overflow ") _ (flag .put-flag-line .ensures))
+    omega (
+      arith,
+      position-end _ (position .put-position .ensures),
+      attributes-end _ _
+          (attributes .put-attributes .ensures),
+      number-line-end (ascii "colour ") _ (number .put-number-line .ensures),
+      number-line-end (ascii "overflow ") _ (flag .put-flag-line .ensures),
+    )
 
 same-length : tie.Need-same-length
 same-length c = search needs
@@ -55,7 +73,8 @@ returns c =
     let attributes = position .before .before .before .before in
     let number = attributes .before .before .before .before in
     let flag = number .before .before .before .before .before in (
-      puts-both (puts-both (puts-both (puts-both (flag .put-flag-line .ensures) (number .put-number-line .ensures)) (attributes .put-attributes .ensures)) (position .put-position .ensures)) (list .put-list .ensures),
+      puts-both (puts-both (puts-both (puts-both (flag .put-flag-line .ensures) (number .put-number-line .ensures))
+          (attributes .put-attributes .ensures)) (position .put-position .ensures)) (list .put-list .ensures),
       omega (
         arith,
         list-end _ (list .put-list .ensures),

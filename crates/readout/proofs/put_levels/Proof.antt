@@ -58,7 +58,8 @@ returns c =
     let bytes2 = decimal2 .before .before .before .before in
     let decimal = bytes2 .before .before .before .before .before in
     let bytes = decimal .before .before .before .before in
-    puts-both (puts-both (puts-both (puts-both (bytes .put-bytes .ensures) (decimal .put-decimal .ensures)) (bytes2 .put-bytes2 .ensures)) (decimal2 .put-decimal2 .ensures)) (number .put-number-line .ensures)
+    puts-both (puts-both (puts-both (puts-both (bytes .put-bytes .ensures) (decimal .put-decimal .ensures))
+    (bytes2 .put-bytes2 .ensures)) (decimal2 .put-decimal2 .ensures)) (number .put-number-line .ensures)
 
 pub put-levels-spec : {M : Type 1} → statement M
 put-levels-spec =

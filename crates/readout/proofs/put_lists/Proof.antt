@@ -21,7 +21,8 @@ put-waiting-requires : tie.Need-put-waiting-requires
 put-waiting-requires c κs =
     let start = c .before .before .before .before .before in
     let w = start .args .g .waiting in
-    let few : w .count < 4 = at-most-3 (w .list) (w .count) (geometry-ranges (start .args .g) (start .pre .0) .waiting .few) in
+    let few : w .count < 4 = at-most-3 (w .list) (w .count) (geometry-ranges (start .args .g)
+    (start .pre .0) .waiting .few) in
     (omega (arith, few), omega (arith, start .pre .1 .1))
 
 put-vertices-requires : tie.Need-put-vertices-requires
@@ -34,7 +35,8 @@ put-vertices-requires c κs =
 
 put-polygons-requires : tie.Need-put-polygons-requires
 put-polygons-requires c κs =
-    let b = within (c .before .before .before .before .before .before .before .before .before .before .before .before .before) in
+    let b = within
+    (c .before .before .before .before .before .before .before .before .before .before .before .before .before) in
     let waiting = c .before .before .before .before .before .before .before .put-waiting .ensures .1 in
     let vertices = c .before .before .before .put-vertices .ensures .1 in (
       (omega (arith, b .polygons-used, b .polygon-room), omega (arith, b .polygons-used, b .polygons-long)),
@@ -50,8 +52,10 @@ returns c =
     let polygons = c .before .before in
     let vertices = polygons .before .before .before .before in
     let waiting = vertices .before .before .before .before in
-    let b = within (c .before .before .before .before .before .before .before .before .before .before .before .before .before .before .before .before) in (
-      puts-both (puts-both (waiting .put-waiting .ensures .0) (vertices .put-vertices .ensures .0)) (polygons .put-polygons .ensures .0),
+    let b = within
+    (c .before .before .before .before .before .before .before .before .before .before .before .before .before .before .before .before) in (
+      puts-both (puts-both (waiting .put-waiting .ensures .0) (vertices .put-vertices .ensures .0))
+          (polygons .put-polygons .ensures .0),
       omega (
         arith,
         b .vertex-room,

@@ -50,7 +50,9 @@ returns c =
     let matrix3 = matrix4 .before .before .before .before .before in
     let matrix2 = matrix3 .before .before .before .before .before in
     let matrix = matrix2 .before .before .before .before .before in (
-      puts-both (puts-both (puts-both (puts-both (matrix .put-matrix .ensures .0) (matrix2 .put-matrix2 .ensures .0)) (matrix3 .put-matrix3 .ensures .0)) (matrix4 .put-matrix4 .ensures .0)) (rw (matrix .before .before .before .clip-matrix .ensures) at (matrix5 .put-matrix5 .ensures .0)),
+      puts-both (puts-both (puts-both (puts-both (matrix .put-matrix .ensures .0) (matrix2 .put-matrix2 .ensures .0))
+          (matrix3 .put-matrix3 .ensures .0)) (matrix4 .put-matrix4 .ensures .0))
+          (rw (matrix .before .before .before .clip-matrix .ensures) at (matrix5 .put-matrix5 .ensures .0)),
       omega (
         arith,
         matrix .put-matrix .ensures .1,

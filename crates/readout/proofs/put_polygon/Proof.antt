@@ -58,7 +58,8 @@ returns c =
     let decimal2 = bytes2 .before .before .before .before .before in
     let bytes = decimal2 .before .before .before .before .before in
     let decimal = bytes .before .before .before .before .before in
-    puts-both (puts-both (puts-both (puts-both (decimal .put-decimal .ensures) (bytes .put-bytes .ensures)) (decimal2 .put-decimal2 .ensures)) (bytes2 .put-bytes2 .ensures)) (word .put-word-line .ensures)
+    puts-both (puts-both (puts-both (puts-both (decimal .put-decimal .ensures) (bytes .put-bytes .ensures))
+    (decimal2 .put-decimal2 .ensures)) (bytes2 .put-bytes2 .ensures)) (word .put-word-line .ensures)
 
 pub put-polygon-spec : {M : Type 1} → statement M
 put-polygon-spec =

@@ -74,8 +74,11 @@ returns : tie.Need-returns Inv-loop μ-loop
 returns c =
     let at = c .before .loop in
     let start = c .before .before .before .before in
-    let all = groups 3 (start .args .count) (start .args .polygons .now) in
-    (rw (take-all (at .i) all (rw (length-groups 3 (start .args .count) (start .args .polygons .now)) (c .loop-test .left))) at (at .inv .3), omega (arith, at .inv .1, at .inv .0))
+    let all = groups 3 (start .args .count) (start .args .polygons .now) in (
+      rw (take-all (at .i) all (rw (length-groups 3 (start .args .count) (start .args .polygons .now))
+          (c .loop-test .left))) at (at .inv .3),
+      omega (arith, at .inv .1, at .inv .0),
+    )
 
 pub put-polygon-lines-spec : {M : Type 1} → statement M
 put-polygon-lines-spec =

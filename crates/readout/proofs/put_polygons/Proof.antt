@@ -32,7 +32,11 @@ returns c =
     let polygons = c .before .before in
     let number = polygons .before .before .before .before in (
       puts-both (number .put-number-line .ensures) (polygons .put-polygon-lines .ensures .0),
-      omega (arith, number-line-end (ascii "polygons ") _ (number .put-number-line .ensures), polygons .put-polygon-lines .ensures .1),
+      omega (
+        arith,
+        number-line-end (ascii "polygons ") _ (number .put-number-line .ensures),
+        polygons .put-polygon-lines .ensures .1,
+      ),
     )
 
 pub put-polygons-spec : {M : Type 1} → statement M

@@ -7,13 +7,16 @@ use Rattle.readout.proofs.put_position.Statement.{statement}
 use Rattle.readout.proofs.put_position.Tie as tie
 
 cast-t6 : tie.Need-cast-t6
-cast-t6 c = widens w16 w32 {z = c .before .before .before .args .p .x} tt (record { sfits = c .struct-told .given .0 .1 })
+cast-t6 c = widens w16 w32 {z = c .before .before .before .args .p .x} tt
+    (record { sfits = c .struct-told .given .0 .1 })
 
 cast-t7 : tie.Need-cast-t7
-cast-t7 c = widens w16 w32 {z = c .before .before .before .before .before .args .p .y} tt (record { sfits = c .struct-told2 .given .1 .0 .1 })
+cast-t7 c = widens w16 w32 {z = c .before .before .before .before .before .args .p .y} tt
+    (record { sfits = c .struct-told2 .given .1 .0 .1 })
 
 cast-t8 : tie.Need-cast-t8
-cast-t8 c = widens w16 w32 {z = c .before .before .before .before .before .before .before .args .p .z} tt (record { sfits = c .struct-told3 .given .1 .1 .0 .1 })
+cast-t8 c = widens w16 w32 {z = c .before .before .before .before .before .before .before .args .p .z} tt
+    (record { sfits = c .struct-told3 .given .1 .1 .0 .1 })
 
 slice-aggregate-put-numbers-line : tie.Need-slice-aggregate-put-numbers-line
 slice-aggregate-put-numbers-line c = search needs

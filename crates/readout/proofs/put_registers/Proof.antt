@@ -28,7 +28,8 @@ returns c =
     let pending = matrices .before .before .before .before in
     let geometry = pending .before .before .before .before in
     let transform = geometry .before .before .before .before in (
-      puts-both (puts-both (puts-both (transform .put-transform .ensures .0) (geometry .put-geometry .ensures .0)) (pending .put-pending .ensures .0)) (matrices .put-matrices .ensures .0),
+      puts-both (puts-both (puts-both (transform .put-transform .ensures .0) (geometry .put-geometry .ensures .0))
+          (pending .put-pending .ensures .0)) (matrices .put-matrices .ensures .0),
       omega (
         arith,
         transform .put-transform .ensures .1,

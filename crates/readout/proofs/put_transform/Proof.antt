@@ -36,8 +36,15 @@ put-levels-requires c κs =
     let number = c .before .before .before in
     let word = number .before .before .before .before .before in
     let start = word .before .before .before .before .before .before .before .before .before in
-    let r = ranges (start .args .t) (start .pre .0) in
-    ((r .level, r .projection, r .texture), omega (arith, number-line-end (ascii "mode ") _ (number .put-number-line .ensures), word-line-end _ (word .put-word-line .ensures)))
+    let r = ranges (start .args .t) (start .pre .0) in (
+      (r .level, r .projection, r .texture),
+      omega (
+        arith,
+        number-line-end (ascii "mode ") _
+            (number .put-number-line .ensures),
+        word-line-end _ (word .put-word-line .ensures),
+      ),
+    )
 
 same-length : tie.Need-same-length
 same-length c = search needs
@@ -49,7 +56,9 @@ returns c =
     let number = levels .before .before .before .before in
     let word = number .before .before .before .before .before in
     let bytes = word .before .before .before .before .before in (
-      puts-both (puts-both (puts-both (bytes .put-bytes .ensures) (rw (word .before .status-word .ensures) at (word .put-word-line .ensures))) (number .put-number-line .ensures)) (levels .put-levels .ensures),
+      puts-both (puts-both (puts-both (bytes .put-bytes .ensures)
+          (rw (word .before .status-word .ensures) at (word .put-word-line .ensures))) (number .put-number-line .ensures))
+          (levels .put-levels .ensures),
       omega (
         arith,
         number-line-end (ascii "mode ") _ (number .put-number-line .ensures),

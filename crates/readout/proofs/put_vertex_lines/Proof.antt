@@ -74,8 +74,11 @@ returns : tie.Need-returns Inv-loop μ-loop
 returns c =
     let at = c .before .loop in
     let start = c .before .before .before in
-    let all = groups 5 (start .args .count) (start .args .vertices .now) in
-    (rw (take-all (at .i) all (rw (length-groups 5 (start .args .count) (start .args .vertices .now)) (c .loop-test .left))) at (at .inv .3), omega (arith, at .inv .1, at .inv .0))
+    let all = groups 5 (start .args .count) (start .args .vertices .now) in (
+      rw (take-all (at .i) all (rw (length-groups 5 (start .args .count) (start .args .vertices .now))
+          (c .loop-test .left))) at (at .inv .3),
+      omega (arith, at .inv .1, at .inv .0),
+    )
 
 pub put-vertex-lines-spec : {M : Type 1} → statement M
 put-vertex-lines-spec =

@@ -32,7 +32,11 @@ returns c =
     let vertexs = c .before .before in
     let number = vertexs .before .before .before .before in (
       puts-both (number .put-number-line .ensures) (vertexs .put-vertex-lines .ensures .0),
-      omega (arith, number-line-end (ascii "vertices ") _ (number .put-number-line .ensures), vertexs .put-vertex-lines .ensures .1),
+      omega (
+        arith,
+        number-line-end (ascii "vertices ") _ (number .put-number-line .ensures),
+        vertexs .put-vertex-lines .ensures .1,
+      ),
     )
 
 pub put-vertices-spec : {M : Type 1} → statement M

@@ -32,7 +32,11 @@ returns c =
     let waitings = c .before .before in
     let number = waitings .before .before .before .before in (
       puts-both (number .put-number-line .ensures) (waitings .put-waiting-lines .ensures .0),
-      omega (arith, number-line-end (ascii "waiting ") _ (number .put-number-line .ensures), waitings .put-waiting-lines .ensures .1),
+      omega (
+        arith,
+        number-line-end (ascii "waiting ") _ (number .put-number-line .ensures),
+        waitings .put-waiting-lines .ensures .1,
+      ),
     )
 
 pub put-waiting-spec : {M : Type 1} → statement M

@@ -14,7 +14,12 @@ returns-2 c = search needs
 returns-3 : tie.Need-returns-3
 returns-3 c =
     let i = c .before .before .before .args .i in
-    let third : i ≡ 2 = omega (arith, c .before .before .before .pre, c .before .if2 .left, c .before .before .if1 .left) in
+    let third : i ≡ 2 = omega (
+      arith,
+      c .before .before .before .pre,
+      c .before .if2 .left,
+      c .before .before .if1 .left,
+    ) in
     rw third
 
 pub waiting-vertex-spec : {M : Type 1} → statement M

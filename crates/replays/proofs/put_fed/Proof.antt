@@ -20,7 +20,11 @@ put-number-line-requires c κs = search needs
 put-refusal-requires : tie.Need-put-refusal-requires
 put-refusal-requires c κs =
     let taken = c .before .before .before in
-    omega (arith, number-line-end (ascii "taken ") _ (taken .put-number-line .ensures), taken .before .before .before .before .before .before .pre .1 .1)
+    omega (
+      arith,
+      number-line-end (ascii "taken ") _ (taken .put-number-line .ensures),
+      taken .before .before .before .before .before .before .pre .1 .1,
+    )
 
 put-engine-requires : tie.Need-put-engine-requires
 put-engine-requires c κs =

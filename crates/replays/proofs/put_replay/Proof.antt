@@ -18,10 +18,12 @@ use Rattle.replays.proofs.put_replay.Tie as tie
 small : (c : tie.Then2) → length (c .before .before .before .before .before .before .args .input .now) ≤ 32768
 small c =
     let asked = c .before in
-    input-fits (asked .before .before .before .before .before .args .log) _ (sym (asked .is-input .ensures) ∙ c .if2 .taken)
+    input-fits (asked .before .before .before .before .before .args .log) _
+    (sym (asked .is-input .ensures) ∙ c .if2 .taken)
 
 -- the text's buffer
-text-long : (c : tie.After-put-run-arg) → length (c .before .before .before .before .before .before .before .before .args .text .now) ≡ 433649
+text-long : (c : tie.After-put-run-arg) → length
+    (c .before .before .before .before .before .before .before .before .args .text .now) ≡ 433649
 text-long c = omega arith
 
 -- the engine that was started
@@ -54,7 +56,8 @@ array-share-prefix-words : tie.Need-array-share-prefix-words
 array-share-prefix-words c = omega (arith, small (c .before .before))
 
 slice-aggregate-put-run : tie.Need-slice-aggregate-put-run
-slice-aggregate-put-run c = sym (length-take-le _ (c .before .before .words-of .result) (omega (arith, small (c .before .before .before))))
+slice-aggregate-put-run c = sym (length-take-le _ (c .before .before .words-of .result)
+    (omega (arith, small (c .before .before .before))))
 
 put-run-requires : tie.Need-put-run-requires
 put-run-requires c κs =

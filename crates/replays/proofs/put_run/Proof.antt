@@ -27,8 +27,10 @@ put-fed-requires : tie.Need-put-fed-requires
 put-fed-requires c κs =
     let fed = c .before .before .before .before .before .before in
     let start = fed .before .before .before .before .before .before in
-    let k = kept fed in
-    ((k .is-sound, omega (arith, k .taken, start .pre .0 .1)), (k .long ∙ start .pre .1 .0, omega (arith, start .pre .1 .1)))
+    let k = kept fed in (
+      (k .is-sound, omega (arith, k .taken, start .pre .0 .1)),
+      (k .long ∙ start .pre .1 .0, omega (arith, start .pre .1 .1)),
+    )
 
 same-length : tie.Need-same-length
 same-length c = search needs

@@ -26,7 +26,8 @@ array-share-prefix-words : tie.Need-array-share-prefix-words
 array-share-prefix-words c = search needs
 
 slice-aggregate-feed-as : tie.Need-slice-aggregate-feed-as
-slice-aggregate-feed-as c = sym (length-take-le _ (c .before .words-of .result) (omega (arith, c .before .before .if1 .left)))
+slice-aggregate-feed-as c = sym (length-take-le _ (c .before .words-of .result)
+    (omega (arith, c .before .before .if1 .left)))
 
 feed-as-requires : tie.Need-feed-as-requires
 feed-as-requires c κs = search needs
