@@ -380,7 +380,8 @@ fn put_lists(text: &mut [u8], at: usize, g: Geometry, vertices: &[i32], polygons
     put_polygons(text, third, polygons, used.polygons)
 }
 
-// All of an engine and the caller's two buffers: at most 433,602 bytes.
+// All of an engine and the caller's two buffers: at most 433,602 bytes, 60 for each of 6,144 vertices, 31 for each of
+// 2,048 polygons and 1,474 more. For the crates above: numbers 1 and 2 do not fall.
 pub fn put_engine(
     text: &mut [u8],
     at: usize,

@@ -4,7 +4,6 @@ ghost use mathlib.Core.Bool.{true};
 ghost use Prim.Native.Nat.{_+_, _≤_};
 ghost use lib.ListN.{length};
 ghost use Rattle.io.specs.Counts.{Counts as Counted};
-ghost use Rattle.words.specs.Words.{over};
 ghost use Rattle.state.specs.Sound.{sound};
 ghost use Rattle.polygons.specs.Buffers.{longEnough};
 ghost use Rattle.engine.specs.Call.{machineOf};
@@ -22,7 +21,8 @@ use state::Counts;
 use state::Engine;
 use stream::words_of;
 
-// Room for the longest report. What it holds is free.
+// Room for the longest report: a line of at most 17 bytes, one of 30, and the engine's text of 433,602. What it holds is
+// free.
 pub fn report_buffer() -> [u8; 433649]
     ensures { λ r. ⌜ 433649 ≡ length r ⌝ }
 {

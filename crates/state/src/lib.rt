@@ -1,5 +1,6 @@
 // The engine's record, by value: the core (all that demand 3 compares, and the rooms) and the command stream. Here are
-// the fresh engine, the start, and the test that a record is sound.
+// the fresh engine, the start, and the test that a record is sound. The structs marked `#[repr(C)]` are parts of the
+// record for C too (`records`).
 ghost use mathlib.Core.Path.{_≡_};
 ghost use mathlib.Core.Bool.{cond};
 ghost use lib.Dec.{eqb};
