@@ -1,6 +1,7 @@
 //! Tells the linker where the product's static libraries are: target/staticlib under the repository root.
 
 use std::env;
+use std::fs;
 use std::path::Path;
 
 fn main() {
@@ -9,6 +10,11 @@ fn main() {
     let libraries = root.join("target/staticlib");
     println!("cargo:rustc-link-search=native={}", libraries.display());
     println!("cargo:rerun-if-changed=build.rs");
-    println!("cargo:rerun-if-changed={}", libraries.join("libbridge.a").display());
-    println!("cargo:rerun-if-changed={}", libraries.join("libtiming.a").display());
+    for name in ["bridge", "timing"] {
+        let library = libraries.join(format!("lib{name}.a"));
+        println!("cargo:rerun-if-changed={}", library.display());
+        // Cargo does not look into what it links: a library of another time is another environment, and so linked anew.
+        let time = fs::metadata(&library).and_then(|about| about.modified());
+        println!("cargo:rustc-env=LIBRARY_{name}={time:?}");
+    }
 }
