@@ -1,4 +1,5 @@
-//! The product's static library: its functions for C, each behind a safe function.
+//! The product's static libraries: its functions for C, and the feed of `probe`, which is for the checks alone; each
+//! behind a safe function.
 //!
 //! Safe, because a slice has as many bytes or numbers as its size says, none is null, and no two of them overlap.
 
@@ -20,6 +21,15 @@ pub struct Answer {
 pub struct EngineAnswer {
     pub number: u32,
     pub place: u32,
+    pub engine: Record,
+}
+
+/// The answer of a feed: the words or port writes that were taken, and the number of the first refusal.
+#[repr(C)]
+#[derive(Clone, Copy, Debug, PartialEq, Eq)]
+pub struct FeedAnswer {
+    pub taken: usize,
+    pub number: u32,
     pub engine: Record,
 }
 
@@ -47,6 +57,20 @@ extern "C" {
     ) -> EngineAnswer;
 }
 
+#[link(name = "probe", kind = "static")]
+extern "C" {
+    fn probe_feed(
+        log: bool,
+        engine: Record,
+        words: *const u32,
+        word_count: usize,
+        vertices: *mut i32,
+        vertex_numbers: usize,
+        polygons: *mut u32,
+        polygon_numbers: usize,
+    ) -> FeedAnswer;
+}
+
 pub fn pack(log: &[u8], output: &mut [u8]) -> Answer {
     unsafe { nauvelppi_pack(log.as_ptr(), log.len(), output.as_mut_ptr(), output.len()) }
 }
@@ -69,4 +93,12 @@ pub fn write(engine: Record, address: u32, value: u32, buffers: &mut Buffers) ->
     let (vertices, vertex_numbers) = (buffers.vertices.as_mut_ptr(), buffers.vertices.len());
     let (polygons, polygon_numbers) = (buffers.polygons.as_mut_ptr(), buffers.polygons.len());
     unsafe { nauvelppi_port_write(engine, address, value, vertices, vertex_numbers, polygons, polygon_numbers) }
+}
+
+/// Feeds words, or with `log` the port writes of a log, until one is refused.
+pub fn feed(log: bool, engine: Record, words: &[u32], buffers: &mut Buffers) -> FeedAnswer {
+    let (words, word_count) = (words.as_ptr(), words.len());
+    let (vertices, vertex_numbers) = (buffers.vertices.as_mut_ptr(), buffers.vertices.len());
+    let (polygons, polygon_numbers) = (buffers.polygons.as_mut_ptr(), buffers.polygons.len());
+    unsafe { probe_feed(log, engine, words, word_count, vertices, vertex_numbers, polygons, polygon_numbers) }
 }
