@@ -1,9 +1,10 @@
 //! Cases of the engine calls: after every call number, place and record; both buffers entirely on a refusal and at
-//! the end.
+//! the end. Of a piece of a list or a log that is fed in one call: number, how many were taken, record, both buffers.
 
 use reference::engine::Engine;
 use reference::geometry::{MOST_POLYGONS, MOST_VERTICES};
 use reference::record::{Counts, Record};
+use reference::refusal::Refusal;
 use reference::table::port;
 use reference::words::{to_bytes, words, MOST_WORDS};
 
@@ -13,7 +14,7 @@ use crate::lists::{random_list, random_log};
 use crate::random::Random;
 use crate::records::{self, FAULTS};
 use crate::tally::{self, Tally};
-use crate::twin::{different_lines, Call, Lent, Twin};
+use crate::twin::{different_lines, word_calls, write_calls, Call, Lent, Twin};
 
 /// A start on both sides; the rooms in range or not.
 pub fn start_case(random: &mut Random, tally: &mut Tally) -> Result<(), String> {
@@ -92,12 +93,40 @@ pub fn mixture_case(random: &mut Random, tally: &mut Tally) -> Result<(), String
     Ok(())
 }
 
-fn word_calls(list: &[u32]) -> Vec<Call> {
-    list.iter().map(|&word| Call::Word(word)).collect()
+/// Pieces of a list and of a log, whole or damaged, each fed in one call; they begin and end also inside a command.
+pub fn pieces_case(random: &mut Random, tally: &mut Tally) -> Result<(), String> {
+    let (mut list, mut log) = (random_list(random), random_log(random));
+    if random.one_in(3) {
+        generate::damage_list(random, &mut list);
+    }
+    if random.one_in(3) {
+        generate::damage_log(random, &mut log);
+    }
+    let (mut list, mut log) = (list.as_slice(), log.as_slice());
+    let begun = random.one_in(3);
+    let mut twin = twin(random, begun)?;
+    while !list.is_empty() || !log.is_empty() {
+        let of_log = list.is_empty() || !log.is_empty() && random.flag();
+        let (side, other) = if of_log { (&mut log, list) } else { (&mut list, log) };
+        let size = piece_size(random).min(side.len());
+        let number = twin.piece(of_log, &side[..size], tally)?;
+        // The piece comes again where the other side has to end its command first.
+        if number != Refusal::Pending.number() || other.is_empty() {
+            // An address without its value is no write yet.
+            *side = &side[if of_log { size & !1 } else { size }..];
+        }
+    }
+    Ok(())
 }
 
-fn write_calls(log: &[u32]) -> Vec<Call> {
-    log.chunks_exact(2).map(|pair| Call::Write(pair[0], pair[1])).collect()
+/// The words of a piece: mostly few, at times all that are left.
+fn piece_size(random: &mut Random) -> usize {
+    match random.below(12) {
+        0 => usize::MAX,
+        1 => random.below(2),
+        2..=4 => random.between(2, 60),
+        _ => random.between(2, 10),
+    }
 }
 
 /// Any call, most likely refused.
@@ -107,6 +136,27 @@ fn any_call(random: &mut Random) -> Call {
         1 => Call::Word(u32::from(generate::known_byte(random))),
         2 => Call::Write(generate::wrong_address(random), generate::number(random)),
         _ => Call::Write(port(generate::known_byte(random)), generate::number(random)),
+    }
+}
+
+/// Three calls, and three pieces with and without items, on an engine that refuses each call and item.
+fn refuses(random: &mut Random, mut twin: Twin, tally: &mut Tally) -> Result<(), String> {
+    for _ in 0..3 {
+        twin.call(any_call(random), tally)?;
+    }
+    for log in [false, true, random.flag()] {
+        let words: Vec<u32> = (0..random.below(3)).flat_map(|_| any_words(random)).collect();
+        let size = words.len() - random.below(2).min(words.len());
+        twin.piece(log, &words[..size], tally)?;
+    }
+    twin.compare_buffers()
+}
+
+/// A call's numbers as two words.
+fn any_words(random: &mut Random) -> [u32; 2] {
+    match any_call(random) {
+        Call::Word(word) => [word, random.word()],
+        Call::Write(address, value) => [address, value],
     }
 }
 
@@ -120,11 +170,7 @@ pub fn unsound_case(random: &mut Random, tally: &mut Tally) -> Result<(), String
     for _ in 0..random.pick(&[1, 1, 1, 2]) {
         random.pick(&FAULTS)(random, &mut record);
     }
-    let mut twin = Twin::new(record, lent);
-    for _ in 0..3 {
-        twin.call(any_call(random), tally)?;
-    }
-    twin.compare_buffers()
+    refuses(random, Twin::new(record, lent), tally)
 }
 
 /// Buffers shorter than their rooms, refused with 2 whatever the call is.
@@ -135,11 +181,8 @@ pub fn short_case(random: &mut Random, tally: &mut Tally) -> Result<(), String> 
     let mut less = |numbers: usize| if random.flag() { numbers - 1 } else { random.below(numbers) };
     let short = (less(vertices), less(polygons));
     let (vertices, polygons) = random.pick(&[short, (short.0, polygons), (vertices, short.1)]);
-    let mut twin = Twin::new(record, Lent::new(random, vertices, polygons));
-    for _ in 0..3 {
-        twin.call(any_call(random), tally)?;
-    }
-    twin.compare_buffers()
+    let lent = Lent::new(random, vertices, polygons);
+    refuses(random, Twin::new(record, lent), tally)
 }
 
 /// Demand 3: a log that packs, written on one engine, and its packed words, fed to an equal one, give equal ends.

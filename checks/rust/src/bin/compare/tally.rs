@@ -16,12 +16,13 @@ pub enum Call {
     Start,
     Word,
     Write,
+    Feed,
     Pack,
     Unpack,
     Program,
 }
 
-const NAMES: [&str; 6] = ["start", "word", "port write", "pack", "unpack", "program"];
+const NAMES: [&str; 7] = ["start", "word", "port write", "feed", "pack", "unpack", "program"];
 
 /// Number 0 stands for an accepted call.
 #[derive(Default)]

@@ -18,6 +18,25 @@ pub enum Call {
     Write(u32, u32),
 }
 
+/// The words of a list as calls.
+pub fn word_calls(list: &[u32]) -> Vec<Call> {
+    list.iter().map(|&word| Call::Word(word)).collect()
+}
+
+/// The port writes of a log as calls; a last number without a partner is no write.
+pub fn write_calls(log: &[u32]) -> Vec<Call> {
+    log.chunks_exact(2).map(|pair| Call::Write(pair[0], pair[1])).collect()
+}
+
+/// What was done with a twin: a call, or a piece of a list, with `true` of a log, in one call.
+enum Deed {
+    Call(Call),
+    Piece(bool, Vec<u32>),
+}
+
+/// The last number that stands for a list.
+const LAST_LIST: u32 = 5;
+
 /// The numbers before and after each lent buffer that no call may touch.
 const GUARD: usize = 8;
 
@@ -55,29 +74,29 @@ pub struct Twin {
     engine: Result<Engine, Refusal>,
     pub given: Lent,
     expected: Lent,
-    /// What a difference prints: the record at the start and the calls so far.
+    /// What a difference prints: the record at the start and what was done so far.
     start: Record,
-    calls: Vec<Call>,
+    deeds: Vec<Deed>,
 }
 
 impl Twin {
     pub fn new(record: Record, lent: Lent) -> Self {
         let engine = record.engine();
-        Twin { record, engine, given: lent.clone(), expected: lent, start: record, calls: Vec::new() }
+        Twin { record, engine, given: lent.clone(), expected: lent, start: record, deeds: Vec::new() }
     }
 
     /// Makes one call on both sides and compares the answers; the number that both answered.
     pub fn call(&mut self, call: Call, tally: &mut Tally) -> Result<u32, String> {
-        self.calls.push(call);
+        self.deeds.push(Deed::Call(call));
         let expected = self.reference(call);
         let answer = self.library(call);
         if answer.number != expected || answer.place != 0 {
             return Err(self.report(&format!("reference {expected} 0, library {} {}", answer.number, answer.place)));
         }
         if expected == 0 {
-            self.compare_meaning(&answer)?;
+            self.compare_meaning(&answer.engine)?;
         } else {
-            self.compare_refused(&answer)?;
+            self.compare_refused(&answer.engine)?;
         }
         self.record = answer.engine;
         tally.count(kind(call), expected);
@@ -102,10 +121,51 @@ impl Twin {
         }
     }
 
+    /// Feeds a piece of a list, or of a log, in one call of the library and item by item to the reference, and compares
+    /// the answers and both buffers; the number that both answered.
+    pub fn piece(&mut self, log: bool, words: &[u32], tally: &mut Tally) -> Result<u32, String> {
+        self.deeds.push(Deed::Piece(log, words.to_vec()));
+        let (number, taken) = self.feed_reference(&if log { write_calls(words) } else { word_calls(words) });
+        let answer = library::feed(log, self.record, words, &mut self.given.buffers());
+        if (answer.number, answer.taken) != (number, taken) {
+            let (other, others) = (answer.number, answer.taken);
+            return Err(self.report(&format!("reference {number}, {taken} taken, library {other}, {others} taken")));
+        }
+        if taken == 0 {
+            self.compare_kept(&answer.engine)?;
+        } else {
+            self.compare_meaning(&answer.engine)?;
+        }
+        self.compare_buffers()?;
+        self.record = answer.engine;
+        tally.count(tally::Call::Feed, number);
+        Ok(number)
+    }
+
+    /// The number of the first call that the reference refuses, and how many it took before. A record whose list is
+    /// none is refused also where there is no call.
+    fn feed_reference(&mut self, calls: &[Call]) -> (u32, usize) {
+        if !self.has_list() {
+            return (Refusal::Unsound.number(), 0);
+        }
+        for (taken, &call) in calls.iter().enumerate() {
+            let number = self.reference(call);
+            if number != 0 {
+                return (number, taken);
+            }
+        }
+        (0, calls.len())
+    }
+
+    /// The number of the record's list stands for one.
+    fn has_list(&self) -> bool {
+        self.record.geometry.waiting.list <= LAST_LIST
+    }
+
     /// An accepted call: the record means what the engine is.
-    fn compare_meaning(&self, answer: &EngineAnswer) -> Result<(), String> {
+    fn compare_meaning(&self, record: &Record) -> Result<(), String> {
         let engine = self.engine.as_ref().map_err(|_| self.report("an unsound record was accepted"))?;
-        let (expected, given) = (Record::from(engine).meaning(), answer.engine.meaning());
+        let (expected, given) = (Record::from(engine).meaning(), record.meaning());
         if expected != given {
             return Err(self.report(&format!("records differ\n{}", different_lines(&expected, &given))));
         }
@@ -113,12 +173,26 @@ impl Twin {
     }
 
     /// A refused call: the very record, every cell, and both buffers.
-    fn compare_refused(&self, answer: &EngineAnswer) -> Result<(), String> {
-        if answer.engine != self.record {
-            let lines = different_lines(&self.record, &answer.engine);
+    fn compare_refused(&self, record: &Record) -> Result<(), String> {
+        self.compare_cells(record)?;
+        self.compare_buffers()
+    }
+
+    /// A piece of which nothing was taken: every cell, but the free ones of the stream only where the list is none.
+    fn compare_kept(&self, record: &Record) -> Result<(), String> {
+        let mut given = *record;
+        if self.has_list() && given.meaning().stream == self.record.meaning().stream {
+            given.stream = self.record.stream;
+        }
+        self.compare_cells(&given)
+    }
+
+    fn compare_cells(&self, record: &Record) -> Result<(), String> {
+        if *record != self.record {
+            let lines = different_lines(&self.record, record);
             return Err(self.report(&format!("a refused call changed the record\n{lines}")));
         }
-        self.compare_buffers()
+        Ok(())
     }
 
     pub fn compare_buffers(&self) -> Result<(), String> {
@@ -140,11 +214,14 @@ impl Twin {
     }
 
     pub fn report(&self, what: &str) -> String {
-        let mut text = format!("engine: {what}\nthe last of these calls, w WORD or p ADDRESS VALUE:\n");
-        for call in &self.calls {
-            let written = match call {
-                Call::Word(word) => write!(text, "w {word:08x}, "),
-                Call::Write(address, value) => write!(text, "p {address:08x} {value:08x}, "),
+        let mut text =
+            format!("engine: {what}\nthe last of these: w WORD, p ADDRESS VALUE, a piece of a list or log:\n");
+        for deed in &self.deeds {
+            let written = match deed {
+                Deed::Call(Call::Word(word)) => write!(text, "w {word:08x}, "),
+                Deed::Call(Call::Write(address, value)) => write!(text, "p {address:08x} {value:08x}, "),
+                Deed::Piece(false, words) => write!(text, "list {words:08x?}, "),
+                Deed::Piece(true, words) => write!(text, "log {words:08x?}, "),
             };
             written.expect("a string takes any text");
         }
