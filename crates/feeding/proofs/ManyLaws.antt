@@ -1,8 +1,7 @@
 -- Several items of a feed that are all taken. Assumes nothing.
-use mathlib.Core.Bool.{Bool, true, false}
 use mathlib.Core.List.{List, [], _∷_, _++_}
 use mathlib.Core.Path.{_≡_, refl, sym, ap, subst, _∙_}
-use Prim.Native.Nat.{ℕ, suc, _+_, _≤_, _<_}
+use Prim.Native.Nat.{ℕ, suc, _+_}
 use native.Mathlib.Nat.{add-zero}
 use native.Mathlib.Omega.{arith}
 use lib.IntN.{ℤ}
@@ -20,7 +19,7 @@ use Rattle.steps.specs.declared.Begun.{Begun}
 use Rattle.steps.specs.declared.Turn.{Turn}
 use Rattle.steps.specs.Many.{AllTaken, no-item, one-item}
 use Rattle.steps.specs.Turn.{dueOf, pendingDue, givenBy, Turned}
-use Rattle.engine.specs.Call.{exec, coreSound, machineOf}
+use Rattle.engine.specs.Call.{exec, coreSound}
 use Rattle.engine.specs.Inside.{firstNumber}
 use Rattle.engine.proofs.Keeps.{Kept}
 use Rattle.feeding.proofs.FeedLaws.{one-fed}

@@ -1,6 +1,6 @@
 -- Inner: the stack commands on matrices that are updated where they stand. No call's contract cites this, and a reader
 -- need not believe it.
-use mathlib.Core.Bool.{Bool, true, false, cond, not, _||_}
+use mathlib.Core.Bool.{Bool, false, cond, not, _||_}
 use mathlib.Core.List.{List}
 use mathlib.Core.Path.{_≡_}
 use Prim.Native.Nat.{ℕ}

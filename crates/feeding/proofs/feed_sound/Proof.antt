@@ -1,3 +1,4 @@
+-- `feeding::feed_sound` meets its contract.
 use mathlib.Core.Path.{_≡_, sym, ap, subst, _∙_}
 use lib.ListN.{length}
 use Rattle.state.specs.declared.Engine.{Engine}
@@ -8,18 +9,9 @@ use Rattle.engine.specs.Inside.{firstNumber}
 use Rattle.feeding.specs.declared.Fed.{Fed as FedAnswer}
 use Rattle.feeding.specs.Feed.{fedOf, feedAs}
 use Rattle.feeding.specs.Inside.{engineFrom, endedAs}
-use native.Mathlib.Omega.{arith}
 use borrow.Author.Needs.{needs}
 use Rattle.feeding.proofs.feed_sound.Statement.{statement}
 use Rattle.feeding.proofs.feed_sound.Tie as tie
-use Rattle.feeding.proofs.feed_sound.Reads as reads
-use Rattle.feeding.proofs.feed_sound.Lts as lts
-use Rattle.feeding.proofs.put_together.Reads as put-together-reads
-use Rattle.feeding.proofs.run_turns.Reads as run-turns-reads
-use Rattle.stacks.proofs.levels_of.Reads as levels-of-reads
-use Rattle.stacks.proofs.matrices_from.Reads as matrices-from-reads
-use Rattle.stacks.proofs.positions_of.Reads as positions-of-reads
-use Rattle.stacks.proofs.vectors_of.Reads as vectors-of-reads
 
 -- the engine of the parts that it was taken apart into
 abbrev whole : tie.After-levels-of → Engine
@@ -38,19 +30,15 @@ whole-is c u =
     (c .before .before .positions-of .ensures .0 u) (c .before .vectors-of .ensures .0 u) (t .projection .matrix)
     (t .projection .slot) (t .texture .matrix) (t .texture .slot)) (e .core .registers .geometry) (e .stream)
 
--- src/lib.rt:325:25
 positions-of-requires : tie.Need-positions-of-requires
 positions-of-requires c κs = search needs
 
--- src/lib.rt:326:23
 vectors-of-requires : tie.Need-vectors-of-requires
 vectors-of-requires c κs = search needs
 
--- src/lib.rt:333:9
 levels-of-requires : tie.Need-levels-of-requires
 levels-of-requires c κs = search needs
 
--- src/lib.rt:327:9
 run-turns-requires : tie.Need-run-turns-requires
 run-turns-requires c κs =
     let s = c .before .before .before .before .before .before .before .before .before .before .before .before .before .before .before .before .before .before .before .before .before .before .before .before .before in
@@ -63,23 +51,18 @@ run-turns-requires c κs =
       ),
     )
 
--- src/lib.rt:346:9
 matrices-from-requires : tie.Need-matrices-from-requires
 matrices-from-requires c κs = search needs
 
--- src/lib.rt:357:5
 put-together-requires : tie.Need-put-together-requires
 put-together-requires c κs = search needs
 
--- src/lib.rt:302:1
 same-length : tie.Need-same-length
 same-length c = search needs
 
--- src/lib.rt:302:1
 same-length-2 : tie.Need-same-length-2
 same-length-2 c = search needs
 
--- src/lib.rt:302:1
 returns : tie.Need-returns
 returns c =
     let s = c .before .before .before .before .before .before .before .before .before .before .before .before .before .before .before .before .before .before .before .before .before .before .before .before .before .before .before .before .before .before .before .before in

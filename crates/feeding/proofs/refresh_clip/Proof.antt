@@ -1,21 +1,15 @@
+-- `feeding::refresh_clip` meets its contract.
 use borrow.Author.Tests.{not-false}
-use native.Mathlib.Omega.{arith}
 use borrow.Author.Needs.{needs}
 use Rattle.feeding.proofs.refresh_clip.Statement.{statement}
 use Rattle.feeding.proofs.refresh_clip.Tie as tie
-use Rattle.feeding.proofs.refresh_clip.Reads as reads
-use Rattle.feeding.proofs.refresh_clip.Lts as lts
-use Rattle.matrix.proofs.clip_matrix.Reads as clip-matrix-reads
 
--- src/lib.rt:135:17
 clip-matrix-requires : tie.Need-clip-matrix-requires
 clip-matrix-requires c κs = search needs
 
--- src/lib.rt:125:1
 returns : tie.Need-returns
 returns c = search needs
 
--- src/lib.rt:125:1
 returns-2 : tie.Need-returns-2
 returns-2 c =
     c .before .pre (not-false (c .before .args .clipped) (c .if1 .left))

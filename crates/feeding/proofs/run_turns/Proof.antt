@@ -28,7 +28,7 @@ use Rattle.engine.specs.Call.{machineOf}
 use Rattle.engine.specs.Inside.{firstNumber}
 use Rattle.feeding.specs.Feed.{fed, feedAs}
 use Rattle.feeding.specs.Inside.{itemsIn, coreFrom, engineFrom}
-use Rattle.feeding.proofs.Looping.{Looping, Feeding, looping-ran, same-size, turn-less, core-level, looping-long}
+use Rattle.feeding.proofs.Looping.{Feeding, looping-ran, same-size, turn-less, core-level, looping-long}
 use Rattle.feeding.proofs.First.{looping-first}
 use Rattle.feeding.proofs.Ends.{end-pending, ended-as, end-due, end-fit}
 use Rattle.feeding.proofs.Arms.{ran-stack, ran-matrix, ran-colour, ran-end, ran-geometry, ran-carried, ran-none}
@@ -194,8 +194,11 @@ element-copy-out-run-stack-in-place c =
 
 run-stack-in-place-requires : tie.Need-run-stack-in-place-requires Inv-loop μ-loop
 run-stack-in-place-requires c κs =
-    let l = at (c .before .before .before .before .before .before .before .before .before .before .before .before) .loop in
-    (core-level (coreFrom (matricesFrom (l .levels) (l .position) (l .vector) (l .positions) (l .vectors) (l .projection) (l .projection-slot) (l .texture) (l .texture-slot)) (l .work .geometry)) (l .inv .looping .kept .sound), (l .inv .positions-long, l .inv .vectors-long))
+    let s = at (c .before .before .before .before .before .before .before .before .before .before .before .before) in
+    let l = s .loop in (
+      core-level (coreFrom (current s) (l .work .geometry)) (l .inv .looping .kept .sound),
+      (l .inv .positions-long, l .inv .vectors-long),
+    )
 
 loop-less : tie.Need-loop-less Inv-loop μ-loop
 loop-less c =
@@ -255,7 +258,7 @@ loop-again-3 : tie.Need-loop-again-3 Inv-loop μ-loop
 loop-again-3 c =
     let o = c .before .before .before .before .before .before .before .before .before .before in
     let l = at o .loop in
-    again (o) _ (c .before .before .before .before .before .before .before .before .r .given .1 ∙ ap Register (c .before .before .before .before .before .r3 .given .1 ∙ ap Drawn (c .before .before .enum-told .given .1))) (matricesFrom (l .levels) (l .position) (l .vector) (l .positions) (l .vectors) (l .projection) (l .projection-slot) (l .texture) (l .texture-slot)) (_) (l .vertices) (l .polygons) (l .clip) (l .clipped)
+    again (o) _ (c .before .before .before .before .before .before .before .before .r .given .1 ∙ ap Register (c .before .before .before .before .before .r3 .given .1 ∙ ap Drawn (c .before .before .enum-told .given .1))) (current (at o)) (_) (l .vertices) (l .polygons) (l .clip) (l .clipped)
     (ran-colour (current (at o)) (l .work .geometry) (l .vertices) (l .polygons) (held (turned o)))
     (l .inv .clip-is)
     (l .inv .positions-long) (l .inv .vectors-long)
@@ -272,7 +275,7 @@ loop-again-4 : tie.Need-loop-again-4 Inv-loop μ-loop
 loop-again-4 c =
     let o = c .before .before .before .before .before .before .before .before in
     let l = at o .loop in
-    again (o) _ (c .before .before .before .before .before .before .r .given .1 ∙ ap Register (c .before .before .before .r3 .given .1 ∙ ap Drawn (c .enum-told2 .given .1))) (matricesFrom (l .levels) (l .position) (l .vector) (l .positions) (l .vectors) (l .projection) (l .projection-slot) (l .texture) (l .texture-slot)) (l .work .geometry) (l .vertices) (l .polygons) (l .clip) (l .clipped)
+    again (o) _ (c .before .before .before .before .before .before .r .given .1 ∙ ap Register (c .before .before .before .r3 .given .1 ∙ ap Drawn (c .enum-told2 .given .1))) (current (at o)) (l .work .geometry) (l .vertices) (l .polygons) (l .clip) (l .clipped)
     (ran-end (current (at o)) (l .work .geometry) (l .vertices) (l .polygons) (held (turned o)))
     (l .inv .clip-is)
     (l .inv .positions-long) (l .inv .vectors-long)
@@ -306,7 +309,7 @@ loop-again-5 : tie.Need-loop-again-5 Inv-loop μ-loop
 loop-again-5 c =
     let o = c .before .before .before .before .before .before .before .before .before .before .before .before .before .before .before .before .before .before .before .before in
     let l = at o .loop in
-    again (o) _ (c .before .before .before .before .before .before .before .before .before .before .before .before .before .before .before .before .before .before .r .given .1 ∙ ap Register (c .before .before .before .before .before .before .before .before .before .before .before .before .before .before .before .r3 .given .1)) (matricesFrom (l .levels) (l .position) (l .vector) (l .positions) (l .vectors) (l .projection) (l .projection-slot) (l .texture) (l .texture-slot)) (_) (_) (_) (_) true
+    again (o) _ (c .before .before .before .before .before .before .before .before .before .before .before .before .before .before .before .before .before .before .r .given .1 ∙ ap Register (c .before .before .before .before .before .before .before .before .before .before .before .before .before .before .before .r3 .given .1)) (current (at o)) (_) (_) (_) (_) true
     (ran-geometry (current (at o)) (l .work .geometry) (l .vertices) (l .polygons) (held (turned o)) _ _ _ _ _ (c .before .before .before .before .before .before .before .before .before .refresh-clip .ensures) (c .before .before .before .run-geometry .ensures))
     (λ t. c .before .before .before .before .before .before .before .before .before .refresh-clip .ensures)
     (l .inv .positions-long) (l .inv .vectors-long)
@@ -323,7 +326,7 @@ loop-again-6 : tie.Need-loop-again-6 Inv-loop μ-loop
 loop-again-6 c =
     let o = c .before .before .before .before .before in
     let l = at o .loop in
-    again (o) _ (c .before .before .before .r .given .1 ∙ ap Register (c .enum-told3 .given .1)) (matricesFrom (l .levels) (l .position) (l .vector) (l .positions) (l .vectors) (l .projection) (l .projection-slot) (l .texture) (l .texture-slot)) (l .work .geometry) (l .vertices) (l .polygons) (l .clip) (l .clipped)
+    again (o) _ (c .before .before .before .r .given .1 ∙ ap Register (c .enum-told3 .given .1)) (current (at o)) (l .work .geometry) (l .vertices) (l .polygons) (l .clip) (l .clipped)
     (ran-carried (current (at o)) (l .work .geometry) (l .vertices) (l .polygons) (held (turned o)))
     (l .inv .clip-is)
     (l .inv .positions-long) (l .inv .vectors-long)
@@ -340,7 +343,7 @@ loop-again-7 : tie.Need-loop-again-7 Inv-loop μ-loop
 loop-again-7 c =
     let o = c .before .before .before .before .before in
     let l = at o .loop in
-    again (o) _ (c .before .before .before .r .given .1 ∙ ap Register (c .enum-told4 .given .1)) (matricesFrom (l .levels) (l .position) (l .vector) (l .positions) (l .vectors) (l .projection) (l .projection-slot) (l .texture) (l .texture-slot)) (l .work .geometry) (l .vertices) (l .polygons) (l .clip) (l .clipped)
+    again (o) _ (c .before .before .before .r .given .1 ∙ ap Register (c .enum-told4 .given .1)) (current (at o)) (l .work .geometry) (l .vertices) (l .polygons) (l .clip) (l .clipped)
     (ran-none (current (at o)) (l .work .geometry) (l .vertices) (l .polygons) (held (turned o)))
     (l .inv .clip-is)
     (l .inv .positions-long) (l .inv .vectors-long)

@@ -1,6 +1,6 @@
 -- `feeding::turn_at` meets its contract. Assumes nothing.
-use mathlib.Core.Bool.{Bool, true, false, false≢true}
-use mathlib.Core.Path.{_≡_, sym, subst, _∙_}
+use mathlib.Core.Bool.{Bool, false≢true}
+use mathlib.Core.Path.{sym, subst, _∙_}
 use Prim.Native.Nat.{_≤_, _<_}
 use lib.ListN.{length}
 use borrow.Author.Needs.{needs}

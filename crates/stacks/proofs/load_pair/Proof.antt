@@ -1,19 +1,12 @@
+-- `stacks::load_pair` meets its contract.
 use Rattle.stacks.proofs.PairLaws.{load-fails, load-done}
-use native.Mathlib.Omega.{arith}
 use borrow.Author.Needs.{needs}
 use Rattle.stacks.proofs.load_pair.Statement.{statement}
 use Rattle.stacks.proofs.load_pair.Tie as tie
-use Rattle.stacks.proofs.load_pair.Reads as reads
-use Rattle.stacks.proofs.load_pair.Lts as lts
-use Rattle.stacks.proofs.fails.Reads as fails-reads
-use Rattle.stacks.proofs.moves.Reads as moves-reads
-use Rattle.stacks.proofs.slot_at.Reads as slot-at-reads
 
--- src/lib.rt:133:9
 fails-requires : tie.Need-fails-requires
 fails-requires c κs = search needs
 
--- src/lib.rt:133:9
 returns : tie.Need-returns
 returns c =
     let a = c .before .before .args in
@@ -21,19 +14,15 @@ returns c =
     (load-fails (a .slot) (a .level) (a .top) (a .position .now) (a .vector .now) (a .positions .now) (a .vectors .now)
     (c .before .if1 .taken))
 
--- src/lib.rt:135:17
 slot-at-requires : tie.Need-slot-at-requires
 slot-at-requires c κs = search needs
 
--- src/lib.rt:136:15
 slot-at-requires-2 : tie.Need-slot-at-requires-2
 slot-at-requires-2 c κs = search needs
 
--- src/lib.rt:137:5
 moves-requires : tie.Need-moves-requires
 moves-requires c κs = search needs
 
--- src/lib.rt:119:1
 returns-2 : tie.Need-returns-2
 returns-2 c =
     let a = c .before .before .before .before .args in

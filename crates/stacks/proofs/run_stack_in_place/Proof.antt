@@ -1,24 +1,16 @@
+-- `stacks::run_stack_in_place` meets its contract.
 use mathlib.Core.Path.{sym, _∙_}
 use Rattle.stacks.proofs.StackLaws.{ran-pair, ran-texture, ran-projection}
-use native.Mathlib.Omega.{arith}
 use borrow.Author.Needs.{needs}
 use Rattle.stacks.proofs.run_stack_in_place.Statement.{statement}
 use Rattle.stacks.proofs.run_stack_in_place.Tie as tie
-use Rattle.stacks.proofs.run_stack_in_place.Reads as reads
-use Rattle.stacks.proofs.run_stack_in_place.Lts as lts
-use Rattle.stacks.proofs.run_pair.Reads as run-pair-reads
-use Rattle.stacks.proofs.run_single.Reads as run-single-reads
-use Rattle.state.proofs.uses_pair.Reads as uses-pair-reads
 
--- src/lib.rt:246:8
 uses-pair-requires : tie.Need-uses-pair-requires
 uses-pair-requires c κs = search needs
 
--- src/lib.rt:247:13
 run-pair-requires : tie.Need-run-pair-requires
 run-pair-requires c κs = search needs
 
--- src/lib.rt:250:9
 returns : tie.Need-returns
 returns c =
     let a = c .before .before .before .before .before .before .before .before .before .args in (
@@ -28,11 +20,9 @@ returns c =
       c .before .before .run-pair .ensures .1,
     )
 
--- src/lib.rt:253:13
 run-single-requires : tie.Need-run-single-requires
 run-single-requires c κs = search needs
 
--- src/lib.rt:256:9
 returns-2 : tie.Need-returns-2
 returns-2 c =
     let a = c .before .before .before .before .before .before .before .before .before .args in (
@@ -42,11 +32,9 @@ returns-2 c =
       c .before .before .before .before .before .before .before .before .before .pre .1,
     )
 
--- src/lib.rt:258:9
 run-single-requires-2 : tie.Need-run-single-requires-2
 run-single-requires-2 c κs = search needs
 
--- src/lib.rt:222:1
 returns-3 : tie.Need-returns-3
 returns-3 c =
     let a = c .before .before .before .before .before .before .before .before .before .args in (

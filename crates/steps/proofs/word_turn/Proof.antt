@@ -1,8 +1,8 @@
 -- `steps::word_turn` meets its contract. Assumes nothing.
-use mathlib.Core.Path.{_≡_, sym, ap, subst, _∙_}
+use mathlib.Core.Path.{sym, ap, subst, _∙_}
 use Prim.Native.Nat.{_^_, _<_}
 use native.Mathlib.Omega.{arith}
-use lib.ListN.{length, getD}
+use lib.ListN.{getD}
 use Rattle.commands.specs.Commands.{hole}
 use Rattle.stream.specs.Step.{wordStep}
 use Rattle.steps.specs.declared.Turn.{Turn}

@@ -1,11 +1,11 @@
 -- `steps::write_turn` meets its contract. Assumes nothing.
-use mathlib.Core.Bool.{Bool, true, false, not, _&&_, _||_}
-use mathlib.Core.Path.{_≡_, refl, sym, ap, subst, _∙_}
+use mathlib.Core.Bool.{Bool, _||_}
+use mathlib.Core.Path.{sym, ap, subst, _∙_}
 use Prim.Native.Nat.{_+_, _*_, _^_, _<_}
 use native.Mathlib.Omega.{arith}
 use lib.Dec.{eqb}
-use lib.ListN.{length, getD, set}
-use Rattle.commands.specs.Commands.{known, count}
+use lib.ListN.{getD, set}
+use Rattle.commands.specs.Commands.{count}
 use Rattle.stream.specs.Read.{writes}
 use Rattle.stream.specs.Step.{portStep}
 use Rattle.steps.specs.declared.Turn.{Turn}

@@ -1,58 +1,42 @@
+-- `transforms::run_matrix_in_place` meets its contract.
 use mathlib.Core.Bool.{Bool, _&&_}
-use mathlib.Core.Path.{_≡_, sym, ap, _∙_}
+use mathlib.Core.Path.{sym, ap, _∙_}
 use lib.Dec.{eqb}
 use Rattle.transforms.proofs.ActLaws.{acts-mode, acts-both, acts-position, acts-texture, acts-projection}
-use native.Mathlib.Omega.{arith}
 use borrow.Author.Needs.{needs}
 use Rattle.transforms.proofs.run_matrix_in_place.Statement.{statement}
 use Rattle.transforms.proofs.run_matrix_in_place.Tie as tie
-use Rattle.transforms.proofs.run_matrix_in_place.Reads as reads
-use Rattle.transforms.proofs.run_matrix_in_place.Lts as lts
-use Rattle.state.proofs.uses_pair.Reads as uses-pair-reads
-use Rattle.transforms.proofs.act_on.Reads as act-on-reads
-use Rattle.transforms.proofs.acts_on_both.Reads as acts-on-both-reads
-use Rattle.transforms.proofs.is_mode.Reads as is-mode-reads
 
--- src/lib.rt:127:8
 is-mode-requires : tie.Need-is-mode-requires
 is-mode-requires c κs = search needs
 
--- src/lib.rt:128:16
 element-copy-out-result : tie.Need-element-copy-out-result
 element-copy-out-result c = search needs
 
--- src/lib.rt:128:9
 returns : tie.Need-returns
 returns c =
     let a = c .before .before .before .args in
     acts-mode (a .command) (a .p .now) (a .mode) (a .position .now) (a .vector .now) (a .projection .now) (a .texture .now)
     (sym (c .before .before .is-mode .ensures) ∙ c .before .if1 .taken)
 
--- src/lib.rt:130:8
 uses-pair-requires : tie.Need-uses-pair-requires
 uses-pair-requires c κs = search needs
 
--- src/lib.rt:131:9
 act-on-requires : tie.Need-act-on-requires
 act-on-requires c κs = search needs
 
--- src/lib.rt:132:26
 acts-on-both-requires : tie.Need-acts-on-both-requires
 acts-on-both-requires c κs = search needs
 
--- src/lib.rt:133:13
 act-on-requires-2 : tie.Need-act-on-requires-2
 act-on-requires-2 c κs = search needs
 
--- src/lib.rt:136:9
 act-on-requires-3 : tie.Need-act-on-requires-3
 act-on-requires-3 c κs = search needs
 
--- src/lib.rt:138:9
 act-on-requires-4 : tie.Need-act-on-requires-4
 act-on-requires-4 c κs = search needs
 
--- src/lib.rt:113:1
 returns-2 : tie.Need-returns-2
 returns-2 c =
     let a = c .before .before .before .before .before .before .before .before .before .before .args in
@@ -61,7 +45,6 @@ returns-2 c =
     (sym (c .before .before .before .before .before .before .before .before .before .is-mode .ensures) ∙ c .before .before .before .before .before .before .before .before .if1 .left) (sym (c .before .before .before .before .before .before .before .uses-pair .ensures) ∙ c .before .before .before .before .before .before .if2 .taken)
     (ap (λ (x : Bool). eqb (a .mode) 2 && x) (sym (c .before .before .before .acts-on-both .ensures)) ∙ c .before .before .if3 .taken))
 
--- src/lib.rt:113:1
 returns-3 : tie.Need-returns-3
 returns-3 c =
     let a = c .before .before .before .before .before .before .before .before .args in
@@ -70,7 +53,6 @@ returns-3 c =
     (sym (c .before .before .before .before .before .before .before .is-mode .ensures) ∙ c .before .before .before .before .before .before .if1 .left) (sym (c .before .before .before .before .before .uses-pair .ensures) ∙ c .before .before .before .before .if2 .taken)
     (ap (λ (x : Bool). eqb (a .mode) 2 && x) (sym (c .before .acts-on-both .ensures)) ∙ c .if3 .left))
 
--- src/lib.rt:113:1
 returns-4 : tie.Need-returns-4
 returns-4 c =
     let a = c .before .before .before .before .before .before .before .args in
@@ -78,7 +60,6 @@ returns-4 c =
     (acts-texture (a .command) (a .p .now) (a .mode) (a .position .now) (a .vector .now) (a .projection .now) (a .texture .now)
     (sym (c .before .before .before .before .before .before .is-mode .ensures) ∙ c .before .before .before .before .before .if1 .left) (sym (c .before .before .before .before .uses-pair .ensures) ∙ c .before .before .before .if2 .left) (c .before .before .if4 .taken))
 
--- src/lib.rt:113:1
 returns-5 : tie.Need-returns-5
 returns-5 c =
     let a = c .before .before .before .before .before .before .before .args in
