@@ -15,10 +15,10 @@ use Rattle.state.specs.declared.Core.{Core}
 use Rattle.state.specs.declared.Engine.{Engine}
 use Rattle.polygons.specs.Buffers.{Buffered}
 use Rattle.execute.specs.Execute.{buffersLong}
-use Rattle.steps.specs.declared.Begun.{Begun}
-use Rattle.steps.specs.declared.Turn.{Turn}
-use Rattle.steps.specs.Many.{AllTaken, no-item, one-item}
-use Rattle.steps.specs.Turn.{dueOf, pendingDue, givenBy, Turned}
+use Rattle.turns.specs.declared.Begun.{Begun}
+use Rattle.turns.specs.declared.Turn.{Turn}
+use Rattle.turns.specs.Inside.{AllTaken, no-item, one-item}
+use Rattle.turns.specs.Inside.{dueOf, pendingDue, givenBy, Turned}
 use Rattle.engine.specs.Call.{exec, coreSound}
 use Rattle.engine.specs.Inside.{firstNumber}
 use Rattle.engine.proofs.Keeps.{Kept}

@@ -22,12 +22,12 @@ use Rattle.execute.specs.declared.RegisterCommand.the-variants.{Geometry as Dra
 use Rattle.execute.specs.Execute.{runOperation, execute}
 use Rattle.stream.specs.Pending.{Pending}
 use Rattle.stream.specs.Call.{machine}
-use Rattle.steps.specs.declared.Begun.{Begun}
-use Rattle.steps.specs.Turn.{toCome}
+use Rattle.turns.specs.declared.Begun.{Begun}
+use Rattle.turns.specs.Inside.{toCome, itemsIn}
 use Rattle.engine.specs.Call.{machineOf}
 use Rattle.engine.specs.Inside.{firstNumber}
 use Rattle.feeding.specs.Feed.{fed, feedAs}
-use Rattle.feeding.specs.Inside.{itemsIn, coreFrom, engineFrom}
+use Rattle.feeding.specs.Inside.{coreFrom, engineFrom}
 use Rattle.feeding.proofs.Looping.{Feeding, looping-ran, same-size, turn-less, core-level, looping-long}
 use Rattle.feeding.proofs.First.{looping-first}
 use Rattle.feeding.proofs.Ends.{end-pending, ended-as, end-due, end-fit}
@@ -40,15 +40,15 @@ abbrev streamWith : Begun → List ℕ → Stream
 streamWith b held = record { queue = b .queue; held = held; count = b .count; dummy = b .dummy; port = b .port }
 
 abbrev Inv-loop : tie.InvT-loop
-Inv-loop table log words position₀ vector₀ positions₀ vectors₀ projection₀ projection-slot₀ texture₀ texture-slot₀ vertices₀ polygons₀ work₀ begun₀ levels₀ clip₀ clipped₀ i₀ position vector positions vectors projection projection-slot texture texture-slot vertices polygons work begun levels clip clipped i =
+Inv-loop table log words position₀ vector₀ positions₀ vectors₀ projection₀ projection-slot₀ texture₀ texture-slot₀ vertices₀ polygons₀ work₀ begun₀ packed levels₀ clip₀ clipped₀ i₀ position vector positions vectors projection projection-slot texture texture-slot vertices polygons work begun levels clip clipped i =
     Feeding
     (engineFrom (matricesFrom levels₀ position₀ vector₀ positions₀ vectors₀ projection₀ projection-slot₀ texture₀ texture-slot₀)
-    (work₀ .geometry) (streamWith begun₀ (work₀ .held))) vertices₀ polygons₀ log words i begun (work .held)
+    (work₀ .geometry) (streamWith begun₀ (work₀ .held))) vertices₀ polygons₀ log packed words i begun (work .held)
     (matricesFrom levels position vector positions vectors projection projection-slot texture texture-slot) (work .geometry)
     vertices polygons clip clipped
 
 abbrev μ-loop : tie.MeasureT-loop
-μ-loop table log words position₀ vector₀ positions₀ vectors₀ projection₀ projection-slot₀ texture₀ texture-slot₀ vertices₀ polygons₀ work₀ begun₀ levels₀ clip₀ clipped₀ i₀ position vector positions vectors projection projection-slot texture texture-slot vertices polygons work begun levels clip clipped i =
+μ-loop table log words position₀ vector₀ positions₀ vectors₀ projection₀ projection-slot₀ texture₀ texture-slot₀ vertices₀ polygons₀ work₀ begun₀ packed levels₀ clip₀ clipped₀ i₀ position vector positions vectors projection projection-slot texture texture-slot vertices polygons work begun levels clip clipped i =
     toCome (itemsIn log (length words)) i begun
 
 -- ---- where the loop begins
@@ -89,13 +89,13 @@ current c =
 
 -- the parameters that are held after the turn
 abbrev held : tie.After-turn-at Inv-loop μ-loop → List ℕ
-held c = c .turn-at .last .1 .1 .1 .1 .1 .0
+held c = c .turn-at .last .1 .1 .1 .1 .1 .1 .0
 
 held-long : (c : tie.After-turn-at Inv-loop μ-loop) → length (held c) ≡ 32
 held-long c =
     let at = c .before .before in
     let l = at .loop in
-    let a = at .before .before .before .before .before .args in
+    let a = at .before .before .before .before .before .before .args in
     same-size (a .log) (a .words .now) (l .i) (l .begun) (l .work .held) (c .turn-at .result) (held c)
     (c .turn-at .ensures .0) ∙ l .inv .held-long
 
@@ -103,14 +103,14 @@ held-long c =
 less : (c : tie.Else1 Inv-loop μ-loop)
     → (let call = c .before .before .turn-at in
     let at = c .before .before .before .before in
-    let a = at .before .before .before .before .before .args in
+    let a = at .before .before .before .before .before .before .args in
     toCome (itemsIn (a .log) (length (a .words .now))) (call .result .next) (call .result .begun)
     < toCome (itemsIn (a .log) (length (a .words .now))) (at .loop .i) (at .loop .begun))
 less c =
     let call = c .before .before .turn-at in
     let at = c .before .before .before .before in
     let l = at .loop in
-    let a = at .before .before .before .before .before .args in
+    let a = at .before .before .before .before .before .before .args in
     turn-less (a .log) (a .words .now) (l .i) (l .begun) (l .work .held) (call .result) (held (c .before .before))
     (call .ensures .0) (c .if1 .left)
 
@@ -130,16 +130,16 @@ module _ (c : tie.After-operation-of Inv-loop μ-loop) where
       → buffered (coreFrom m g) vs ps ≡ runOperation o (held turned) before-it
       → (clipped ≡ true → clip ≡ clipMatrix (m .transform .pair .position) (m .transform .projection .matrix))
       → length (m .stacks .positions) ≡ 496 → length (m .stacks .vectors) ≡ 496
-      → (let a = at .before .before .before .before .before .args in
-      Feeding (begins (at .before)) (a .vertices .now) (a .polygons .now) (a .log) (a .words .now)
+      → (let a = at .before .before .before .before .before .before .args in
+      Feeding (begins (at .before .before)) (a .vertices .now) (a .polygons .now) (a .log) (at .before .is-packed .result) (a .words .now)
       (turned .turn-at .result .next) (turned .turn-at .result .begun) (held turned) m g vs ps clip clipped)
   unfolding execute
   again o is m g vs ps clip clipped ran clip-is positions-long vectors-long =
       let l = at .loop in
-      let a = at .before .before .before .before .before .args in
+      let a = at .before .before .before .before .before .before .args in
       let call = turned .turn-at in
       record {
-        looping = looping-ran (begins (at .before)) (a .vertices .now) (a .polygons .now) (first-is (at .before))
+        looping = looping-ran (begins (at .before .before)) (a .vertices .now) (a .polygons .now) (first-is (at .before .before))
             (a .words .now) (l .i) (l .begun) (l .work .held) before-it (call .result) (held turned) (a .log)
             (l .inv .looping)
             (call .ensures .0) (call .ensures .1 .0) (call .ensures .1 .1) (buffered (coreFrom m g) vs ps)
@@ -158,17 +158,21 @@ begun-of-requires : tie.Need-begun-of-requires Inv-loop μ-loop
 begun-of-requires c κs =
     search needs
 
+is-packed-requires : tie.Need-is-packed-requires Inv-loop μ-loop
+is-packed-requires c κs = c .before .before .before .before .pre .0
+
 loop-holds : tie.Need-loop-holds Inv-loop μ-loop
 loop-holds c =
-    let s = c .before .before .before .before in
+    let b = c .before in
+    let s = b .before .before .before .before in
     let a = s .args in
-    let small : begins c .stream .queue < 2 ^ 32 =
-    omega (arith, c .begun-of .ensures .1, ap (λ (b : Begun). b .queue) (c .begun-of .ensures .0)) in
+    let small : begins b .stream .queue < 2 ^ 32 =
+    omega (arith, b .begun-of .ensures .1, ap (λ (b : Begun). b .queue) (b .begun-of .ensures .0)) in
     record {
-      looping = looping-first (begins c) (a .vertices .now) (a .polygons .now) (first-is c) (a .log) (a .words .now)
-          (c .before .held-of .ensures .1) small;
+      looping = looping-first (begins b) (a .vertices .now) (a .polygons .now) (first-is b) (a .log)
+          (c .is-packed .result) (a .words .now) (b .before .held-of .ensures .1) small (c .is-packed .ensures);
       clip-is = λ t. absurd (false≢true t);
-      held-long = c .before .held-of .ensures .1;
+      held-long = b .before .held-of .ensures .1;
       positions-long = s .pre .1 .0 .0;
       vectors-long = s .pre .1 .0 .1;
     }
@@ -176,8 +180,11 @@ loop-holds c =
 turn-at-requires : tie.Need-turn-at-requires Inv-loop μ-loop
 turn-at-requires c κs =
     let l = c .before .loop in (
-      c .before .before .before .before .before .before .pre .0,
-      ((l .inv .looping .fit, l .inv .looping .within, l .inv .held-long), l .inv .looping .log-due),
+      c .before .before .before .before .before .before .before .pre .0,
+      (
+        (l .inv .looping .fit, l .inv .looping .within, l .inv .held-long),
+        λ t. (l .inv .looping .log-due t, l .inv .looping .log-packed t),
+      ),
     )
 
 operation-of-requires : tie.Need-operation-of-requires Inv-loop μ-loop
@@ -296,9 +303,9 @@ run-geometry-requires : tie.Need-run-geometry-requires Inv-loop μ-loop
 run-geometry-requires c κs =
     let s = c .before .before .before .before .before .before .before .before .before .before .before .before .before .before .before .before .before .before .before .before .before in
     let l = s .loop in
-    let a = s .before .before .before .before .before .args in (
+    let a = s .before .before .before .before .before .before .args in (
       core-parts (coreFrom (current s) (l .work .geometry)) (l .inv .looping .kept .sound) .1,
-      looping-long (begins (s .before)) (a .vertices .now) (a .polygons .now) (first-is (s .before)) (l .inv .looping),
+      looping-long (begins (s .before .before)) (a .vertices .now) (a .polygons .now) (first-is (s .before .before)) (l .inv .looping),
     )
 
 loop-less-5 : tie.Need-loop-less-5 Inv-loop μ-loop
@@ -350,7 +357,7 @@ loop-again-7 c =
 
 stream-of-requires : tie.Need-stream-of-requires Inv-loop μ-loop
 stream-of-requires c κs =
-    c .before .before .before .before .before .before .before .before .before .before .before .pre .0
+    c .before .before .before .before .before .before .before .before .before .before .before .before .pre .0
 
 same-length : tie.Need-same-length Inv-loop μ-loop
 same-length c =
@@ -365,12 +372,12 @@ returns c =
     let turned = c .before .before .before .before .before in
     let s = turned .before .before in
     let l = s .loop in
-    let a = s .before .before .before .before .before .args in
+    let a = s .before .before .before .before .before .before .args in
     let r = turned .turn-at .result in
     let told = turned .turn-at .ensures in
     let new = held turned in
-    let e = begins (s .before) in
-    let first = first-is (s .before) in
+    let e = begins (s .before .before) in
+    let first = first-is (s .before .before) in
     let t : Buffered Core = buffered (coreFrom (current s) (l .work .geometry)) (l .vertices) (l .polygons) in
     let end = c .before .before .before .if1 .taken in
     ap (λ (x : Stream). fed (r .next) (r .number) (machineOf (engineFrom (current s) (l .work .geometry) x) (l .vertices) (l .polygons)))
@@ -383,7 +390,7 @@ returns c =
     ∙ ended-as e (a .vertices .now) (a .polygons .now) first (a .words .now) (l .i) (l .begun) (l .work .held) t r new (a .log)
     (l .inv .looping) (told .0) end
     ∙ ap (λ (e : Engine). feedAs (a .log) (machineOf e (a .vertices .now) (a .polygons .now)) (a .words .now))
-    (begins-is (s .before))
+    (begins-is (s .before .before))
 
 pub run-turns-spec : {M : Type 1} → statement M
 run-turns-spec =
@@ -393,6 +400,7 @@ run-turns-spec =
     μ-loop
     held-of-requires
     begun-of-requires
+    is-packed-requires
     loop-holds
     turn-at-requires
     operation-of-requires
