@@ -1,6 +1,5 @@
 -- Inner: the matrix commands on matrices that are updated where they stand. No call's contract cites this, and a reader
 -- need not believe it.
-use mathlib.Core.Bool.{Bool, true, false}
 use mathlib.Core.List.{List}
 use mathlib.Core.Path.{_≡_}
 use Prim.Native.Nat.{ℕ}
@@ -13,29 +12,17 @@ use Rattle.transforms.specs.declared.MatrixCommand.the-variants.{Mode, I
 use Rattle.transforms.specs.declared.MatrixCommand.the-variants.{Multiply4x3, Multiply3x3, Scale, Translate}
 use Rattle.transforms.specs.Command.{numbersOf, scaleOf, translationOf, runMatrix}
 
--- 10h
-unfoldable pub isMode : MatrixCommand → Bool
-isMode Mode = true
-isMode Identity = false
-isMode Load4x4 = false
-isMode Load4x3 = false
-isMode Multiply4x4 = false
-isMode Multiply4x3 = false
-isMode Multiply3x3 = false
-isMode Scale = false
-isMode Translate = false
-
--- every command but a scale acts on both matrices in mode 2
-unfoldable pub bothToo : MatrixCommand → Bool
-bothToo Mode = true
-bothToo Identity = true
-bothToo Load4x4 = true
-bothToo Load4x3 = true
-bothToo Multiply4x4 = true
-bothToo Multiply4x3 = true
-bothToo Multiply3x3 = true
-bothToo Scale = false
-bothToo Translate = true
+-- what a command acts on: 0 the mode, 1 the current matrix, 2 the current matrix and, in mode 2, the vector matrix
+unfoldable pub reach : MatrixCommand → ℕ
+reach Mode = 0
+reach Identity = 2
+reach Load4x4 = 2
+reach Load4x3 = 2
+reach Multiply4x4 = 2
+reach Multiply4x3 = 2
+reach Multiply3x3 = 2
+reach Scale = 1
+reach Translate = 2
 
 -- what a command makes of a current matrix; 10h leaves it
 unfoldable pub acted : MatrixCommand → List ℕ → List ℤ → List ℤ
