@@ -10,6 +10,7 @@ use lib.Seq.{drop-drop, length-take-le}
 use Rattle.stream.specs.Pending.{Pending}
 use Rattle.stream.specs.Command.{Command}
 use Rattle.stream.specs.Step.{Step, accepted}
+use Rattle.stream.proofs.CallLaws.{run-append}
 use Rattle.stream.specs.Call.{Machine, Reply, machine, reply, run, afterStep, callBy}
 use Rattle.state.specs.declared.Core.{Core}
 use Rattle.state.specs.declared.Engine.{Engine}
@@ -24,10 +25,6 @@ use Rattle.engine.specs.Inside.{firstNumber}
 use Rattle.engine.proofs.Keeps.{Kept}
 use Rattle.feeding.proofs.FeedLaws.{one-fed}
 use Rattle.feeding.proofs.LoopLaws.{Between, usable-call, still-long}
-
-pub run-append : (cs ds : List Command) (s : Buffered Core) → run exec (cs ++ ds) s ≡ run exec ds (run exec cs s)
-run-append [] ds s = refl
-run-append (c ∷ cs) ds s = run-append cs ds (exec c s)
 
 module _ (e : Engine) (vertices : List ℤ) (polygons : List ℕ)
     (first : firstNumber e (length vertices) (length polygons) ≡ 0)
@@ -63,7 +60,7 @@ module _ (e : Engine) (vertices : List ℤ) (polygons : List ℕ)
       let behind : drop (i + 1) ws ≡ l ++ r = tail i a (l ++ r) d in
       let next : drop i ws ≡ a ∷ drop (i + 1) ws = d ∙ ap (λ (k : List A). a ∷ k) (sym behind) in
       let far : i + suc (length l) ≡ i + 1 + length l = omega arith in
-      rw (far, run-append xs ys s)
+      rw (far, run-append exec xs ys s)
       (many-taken l (i + 1) (run exec xs s) m q ys r (one-taken i s p m xs a b next t) behind more)
 
 -- ---- a turn over the items
@@ -85,8 +82,8 @@ module _ (e : Engine) (vertices : List ℤ) (polygons : List ℕ)
       let size : length l ≡ u .many = length-take-le (u .many) (drop i ws) (omega (arith, u .within, length-drop i ws)) in
       let ran : run exec (u .completed) (run exec (dueOf b) t)
       ≡ run exec (dueOf (r .begun)) (run exec (givenBy (r .command) new) t) =
-      sym (run-append (dueOf b) (u .completed) t) ∙ ap (λ (cs : List Command). run exec cs t) (u .order)
-      ∙ run-append (givenBy (r .command) new) (dueOf (r .begun)) t in
+      sym (run-append exec (dueOf b) (u .completed) t) ∙ ap (λ (cs : List Command). run exec cs t) (u .order)
+      ∙ run-append exec (givenBy (r .command) new) (dueOf (r .begun)) t in
       rw (u .next, ← size, ← ran)
       (many-taken e vertices polygons first step keeps ws l i (run exec (dueOf b) t) (pendingDue b old)
       (pendingDue (r .begun) new) (u .completed) (drop (u .many) (drop i ws)) at
