@@ -1,21 +1,17 @@
 -- A stack command by the mode, on the matrices of their parts.
-use mathlib.Core.Bool.{Bool, true, false, _||_}
+use mathlib.Core.Bool.{true, false, _||_}
 use mathlib.Core.List.{List}
 use mathlib.Core.Path.{_≡_}
 use Prim.Native.Nat.{ℕ}
 use lib.IntN.{ℤ}
-use borrow.Author.Tests.{eq-eqb, ne-eqb}
-use Rattle.state.specs.declared.Single.{Single}
 use Rattle.state.specs.Mode.{usesPair}
-use Rattle.state.specs.With.{withProjection, withTexture, withError}
 use Rattle.stacks.specs.declared.Levels.{Levels}
 use Rattle.stacks.specs.declared.Matrices.{Matrices}
 use Rattle.stacks.specs.declared.Moved.{Moved}
 use Rattle.stacks.specs.declared.StackCommand.{StackCommand}
-use Rattle.stacks.specs.Matrices.{putTransform}
 use Rattle.stacks.specs.Stack.{runStack}
 use Rattle.stacks.specs.Inside.{matricesFrom, PairActs, SingleActs}
-use Rattle.stacks.proofs.SingleLaws.{run-single-by, acted}
+use Rattle.stacks.proofs.SingleLaws.{ran-texture as by-texture, ran-projection as by-projection}
 
 -- the levels after a command on one of the three stacks
 abbrev pub pairMoved : Levels → Moved → Levels
@@ -44,16 +40,10 @@ module _ (k : StackCommand) (p : ℕ) (l : Levels) (a b s v projection slot text
       → SingleActs k (l .texture) texture tslot r x y
       → matricesFrom (textureMoved l r) a b s v projection slot x y ≡ runStack k p m
   unfolding runStack
-  ran-texture u three r x y acts =
-      rw (u, run-single-by k m, eq-eqb (l .mode) 3 three)
-      (acted (λ (q : Single) (e : Bool). putTransform m (withError (withTexture (m .transform) q) e)) k (l .texture)
-      texture tslot r x y (l .error) acts)
+  ran-texture u three r x y acts = rw u (by-texture k m r x y three acts)
 
   pub ran-projection : usesPair (l .mode) ≡ false → (l .mode ≡ 3 → ⊥) → (r : Moved) (x y : List ℤ)
       → SingleActs k (l .projection) projection slot r x y
       → matricesFrom (projectionMoved l r) a b s v x y texture tslot ≡ runStack k p m
   unfolding runStack
-  ran-projection u other r x y acts =
-      rw (u, run-single-by k m, ne-eqb (l .mode) 3 other)
-      (acted (λ (q : Single) (e : Bool). putTransform m (withError (withProjection (m .transform) q) e)) k
-      (l .projection) projection slot r x y (l .error) acts)
+  ran-projection u other r x y acts = rw u (by-projection k m r x y other acts)

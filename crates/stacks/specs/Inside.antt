@@ -7,6 +7,7 @@ use Prim.Native.Nat.{ℕ}
 use lib.Dec.{eqb}
 use lib.IntN.{ℤ}
 use Rattle.state.specs.declared.Single.{Single}
+use Rattle.state.specs.declared.Stacks.{Stacks}
 use Rattle.state.specs.declared.Transform.{Transform}
 use Rattle.stacks.specs.declared.Levels.{Levels}
 use Rattle.stacks.specs.declared.Matrices.{Matrices}
@@ -19,6 +20,9 @@ abbrev pub moved : ℕ → Bool → Moved
 moved level failed = record { level = level; failed = failed }
 
 -- ---- the matrices of their parts
+
+abbrev pub matricesOf : Transform → Stacks → Matrices
+matricesOf t s = record { transform = t; stacks = s }
 
 abbrev pub levelsOf : Transform → Levels
 levelsOf t =
