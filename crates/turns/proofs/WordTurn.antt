@@ -3,8 +3,8 @@ use mathlib.Core.Bool.{Bool, true, false}
 use mathlib.Core.List.{List, [], _∷_, _++_, append-nil}
 use mathlib.Core.Path.{_≡_, refl, sym, _∙_}
 use Prim.Native.Nat.{ℕ, zero, suc, _+_, _/_, _%_, _^_, _≤_, _<_}
+use native.Mathlib.Nat.{add-zero}
 use native.Mathlib.Omega.{arith}
-use lib.Dec.{eqb, eqb·suc-zero}
 use lib.ListN.{length, getD, take, drop}
 use borrow.Author.Tests.{ne-eqb, lt-ltb, le-ltb}
 use Rattle.commands.specs.Commands.{known, count, commandBytes, hole}
@@ -59,30 +59,35 @@ module _ (b : Begun) (ws old : List ℕ) (i : ℕ) (long : length old ≡ 32) (f
   given : (held : List ℕ) → givenBy c held ≡ command c (take (count c) held) ∷ []
   given = given-some c (λ z. omega (arith, z, known-range c k))
 
-  -- it is complete
-  pub word-complete : {r : Turn} {new : List ℕ} (lacks : ℕ) → b .count + lacks ≡ count c → i + lacks ≤ length ws
-      → Held (λ w. w) ws i old (b .count) new lacks
-      → r ≡ turn (i + lacks) (begun (b .queue / 256) 0 (eqb lacks 0) 0) c 0 false → Turned wordStep ws i b old r new
-  word-complete {r} {new} zero e w h is =
-      let none : b .count ≡ 0 = by (count c) refl in
-      let z : count c ≡ 0 = omega (arith, e, none) in
-      turned-on 0 (begun (b .queue / 256) 0 true 0) c [] is (same-length h) w
-      (rw (pending-none b fits k old z, pending-behind (b .queue / 256) true new) no-item)
-      (append-nil (dueOf b) ∙ due-none b fits k z ∙ rw (given new, z, due-behind (b .queue / 256) true))
+  -- it takes none, or no more than are held
+  pub word-at-once : {r : Turn} → b .count ≡ count c → i ≤ length ws
+      → r ≡ turn i (begun (b .queue / 256) 0 true 0) c 0 false → Turned wordStep ws i b old r old
+  word-at-once {r} e w is =
+      turned-on 0 (begun (b .queue / 256) 0 true 0) c [] (rw (add-zero i) is) refl (omega (arith, w))
+      (rw (pending-none b fits k old z, pending-behind (b .queue / 256) true old) no-item)
+      (append-nil (dueOf b) ∙ due-none b fits k z ∙ rw (given old, z, due-behind (b .queue / 256) true))
       (fit-next true) (omega (arith, known-range c k))
     where
-      by : (n : ℕ) → count c ≡ n → b .count ≡ 0
-      by zero z = f .none-held k z
+      by : (n : ℕ) → count c ≡ n → count c ≡ 0
+      by zero z = z
       by (suc n) z = absurd (omega (arith, e, z, f .fewer k (omega (arith, z))))
-  word-complete {r} {new} (suc m) e w h is =
+
+      z : count c ≡ 0
+      z = by (count c) refl
+
+  -- it is complete with words that were lacking
+  pub word-complete : {r : Turn} {new : List ℕ} (lacks : ℕ) → 1 ≤ lacks → b .count + lacks ≡ count c
+      → i + lacks ≤ length ws → Held (λ w. w) ws i old (b .count) new lacks
+      → r ≡ turn (i + lacks) (begun (b .queue / 256) 0 false 0) c 0 false → Turned wordStep ws i b old r new
+  word-complete {r} {new} lacks o e w h is =
       let some : 1 ≤ count c = omega (arith, e) in
-      turned-on (suc m) (begun (b .queue / 256) 0 false 0) c (command c (take (count c) new) ∷ atOnce q)
-      (rw (eqb·suc-zero m) at is) (same-length h) w
+      turned-on lacks (begun (b .queue / 256) 0 false 0) c (command c (take (count c) new) ∷ atOnce q)
+      is (same-length h) w
       (rw (pending-some b fits k old some, pending-behind (b .queue / 256) false new)
       (all-taken wordStep (λ w. w) (queued (c ∷ q)) (count c) (more c q) h long (count-small c) (pendingBehind false q)
-      (λ h. command c h ∷ atOnce q) (last c q) (omega arith) e))
+      (λ h. command c h ∷ atOnce q) (last c q) o e))
       (rw (due-some b fits k some, given new, due-behind (b .queue / 256) false))
-      (fit-next false) (omega (arith, w, fits))
+      (fit-next false) (omega (arith, w, fits, o))
 
   -- words are lacking
   pub word-short : {r : Turn} {new : List ℕ} (left : ℕ) → b .count + left < count c → i + left ≡ length ws

@@ -87,6 +87,18 @@ fn hold_words(words: &[u32], i: usize, many: usize, held: &mut [u32; 32], count:
     }
 }
 
+// What is pending behind the command at the front of the queue; `dummy`: it takes no parameter.
+fn behind(queue: u32, dummy: bool) -> Begun
+    ensures { λ r. ⌜ r ≡ record { queue = queue / 256; count = 0; dummy = dummy; port = 0 } ⌝ }
+{
+    Begun {
+        queue: queue / 256,
+        count: 0,
+        dummy: dummy,
+        port: 0,
+    }
+}
+
 // A turn on the command at the front of the queue.
 fn parameters_turn(
     table: &[u8; 256],
@@ -103,6 +115,9 @@ fn parameters_turn(
     let byte = (b.queue % 256) as u8;
     let count = b.count;
     let lacks = count_in(table, byte) - count;
+    if lacks == 0 {
+        return runs(i, behind(b.queue, true), byte);
+    }
     let left = words.len() - i;
     if left < lacks {
         hold_words(words, i, left, held, count);
@@ -112,13 +127,7 @@ fn parameters_turn(
         return ends(i + left, n, 0);
     }
     hold_words(words, i, lacks, held, count);
-    let n = Begun {
-        queue: b.queue / 256,
-        count: 0,
-        dummy: lacks == 0,
-        port: 0,
-    };
-    runs(i + lacks, n, byte)
+    runs(i + lacks, behind(b.queue, false), byte)
 }
 
 // A turn over packed words, from the i-th on.

@@ -3,7 +3,7 @@ use Prim.Native.Nat.{_-_, _%_, _^_, _≤_, _<_}
 use native.Mathlib.Omega.{arith}
 use lib.ListN.{length}
 use Rattle.commands.proofs.Table.{count-small}
-use Rattle.turns.proofs.WordTurn.{held-few, word-complete, word-short}
+use Rattle.turns.proofs.WordTurn.{held-few, word-at-once, word-complete, word-short}
 use borrow.Author.Needs.{needs}
 use Rattle.turns.proofs.parameters_turn.Statement.{statement}
 use Rattle.turns.proofs.parameters_turn.Tie as tie
@@ -23,12 +23,27 @@ count-in-requires c κs = search needs
 sub-lacks : tie.Need-sub-lacks
 sub-lacks c = few c
 
+behind-requires : tie.Need-behind-requires
+behind-requires c κs = search needs
+
+runs-requires : tie.Need-runs-requires
+runs-requires c κs = search needs
+
+returns : tie.Need-returns
+returns c =
+    let d = c .before .before .before in
+    let s = d .before .before .before in
+    let fits : s .args .b .queue < 2 ^ 32 = search needs in
+    word-at-once _ _ _ _ (s .pre .1 .1 .1) fits (s .pre .1 .0 .0) (s .pre .1 .0 .1)
+    (omega (arith, few d, d .count-in .ensures, c .before .before .if1 .taken)) (s .pre .1 .1 .0)
+    (rw (← c .before .behind .ensures) (c .runs .ensures))
+
 sub-left : tie.Need-sub-left
 sub-left c = search needs
 
 hold-words-requires : tie.Need-hold-words-requires
 hold-words-requires c κs =
-    let d = c .before .before in (
+    let d = c .before .before .before in (
       omega (arith, d .before .before .before .pre .1 .1 .0),
       omega (arith, few d, d .count-in .ensures, count-small (d .before .before .before .args .b .queue % 256)),
     )
@@ -42,39 +57,43 @@ add-ends c = search needs
 ends-requires : tie.Need-ends-requires
 ends-requires c κs = search needs
 
-returns : tie.Need-returns
-returns c =
-    let s = c .before .before .before .before .before .before .before in
+returns-2 : tie.Need-returns-2
+returns-2 c =
+    let d = c .before .before .before .before .before in
+    let s = d .before .before .before in
     let a = s .args in
-    let d = c .before .before .before .before in
     let fits : a .b .queue < 2 ^ 32 = search needs in
     word-short _ _ _ _ (s .pre .1 .1 .1) fits (s .pre .1 .0 .0) (s .pre .1 .0 .1) (length (a .words .now) - a .i)
-    (omega (arith, few d, d .count-in .ensures, c .before .before .before .if1 .taken)) (omega (arith, s .pre .1 .1 .0))
+    (omega (arith, few d, d .count-in .ensures, c .before .before .before .if2 .taken)) (omega (arith, s .pre .1 .1 .0))
     (c .before .hold-words .ensures) (c .ends .ensures)
 
 hold-words-requires-2 : tie.Need-hold-words-requires-2
 hold-words-requires-2 c κs =
-    let d = c .before .before in (
-      omega (arith, few d, d .before .before .before .pre .1 .1 .0, c .before .if1 .left),
+    let d = c .before .before .before in (
+      omega (arith, few d, d .before .before .before .pre .1 .1 .0, c .before .if2 .left),
       omega (arith, few d, d .count-in .ensures, count-small (d .before .before .before .args .b .queue % 256)),
     )
 
 add-runs : tie.Need-add-runs
 add-runs c = search needs
 
-runs-requires : tie.Need-runs-requires
-runs-requires c κs = search needs
+behind-requires-2 : tie.Need-behind-requires-2
+behind-requires-2 c κs = search needs
 
-returns-2 : tie.Need-returns-2
-returns-2 c =
-    let s = c .before .before .before .before .before .before .before .before in
+runs-requires-2 : tie.Need-runs-requires-2
+runs-requires-2 c κs = search needs
+
+returns-3 : tie.Need-returns-3
+returns-3 c =
+    let d = c .before .before .before .before .before .before in
+    let s = d .before .before .before in
     let a = s .args in
-    let d = c .before .before .before .before .before in
     let fits : a .b .queue < 2 ^ 32 = search needs in
     word-complete _ _ _ _ (s .pre .1 .1 .1) fits (s .pre .1 .0 .0) (s .pre .1 .0 .1) (d .count-in .result - a .b .count)
+    (omega (arith, few d, c .before .before .before .before .before .if1 .left))
     (omega (arith, few d, d .count-in .ensures))
-    (omega (arith, few d, s .pre .1 .1 .0, c .before .before .before .before .if1 .left))
-    (c .before .before .hold-words2 .ensures) (c .runs .ensures)
+    (omega (arith, few d, s .pre .1 .1 .0, c .before .before .before .before .if2 .left))
+    (c .before .before .hold-words2 .ensures) (rw (← c .before .behind2 .ensures) (c .runs2 .ensures))
 
 pub parameters-turn-spec : {M : Type 1} → statement M
 parameters-turn-spec =
@@ -83,13 +102,17 @@ parameters-turn-spec =
     cast-byte
     count-in-requires
     sub-lacks
+    behind-requires
+    runs-requires
+    returns
     sub-left
     hold-words-requires
     add-n
     add-ends
     ends-requires
-    returns
+    returns-2
     hold-words-requires-2
     add-runs
-    runs-requires
-    returns-2)
+    behind-requires-2
+    runs-requires-2
+    returns-3)
