@@ -30,8 +30,8 @@ use steps::port_step;
 use steps::word_step;
 
 // Runs the commands of the lowest `count` bytes of a word, from the lowest on, each with the first parameters that are
-// held, as many as it takes. For the crates above: numbers 1 and 2 do not fall.
-pub fn run_commands(
+// held, as many as it takes. Numbers 1 and 2 do not fall.
+fn run_commands(
     core: Core,
     commands: u32,
     count: usize,

@@ -54,7 +54,8 @@ module _ (e : Engine) (vertices : List ℤ) (polygons : List ℕ)
   pub many-taken : (l : List A) (i : ℕ) (s : Buffered Core) (p q : Pending) (cs : List Command) (r : List A)
       → Between e vertices polygons (callBy exec coreSound buffersLong step) ws i (machine s p)
       → drop i ws ≡ l ++ r → AllTaken step p l q cs
-      → Between e vertices polygons (callBy exec coreSound buffersLong step) ws (i + length l) (machine (run exec cs s) q)
+      → Between e vertices polygons (callBy exec coreSound buffersLong step) ws (i + length l)
+      (machine (run exec cs s) q)
   many-taken [] i s p q cs r b d no-item = rw (add-zero i) b
   many-taken (a ∷ l) i s p q cs r b d (one-item {q = m} {cs = xs} {ds = ys} t more) =
       let behind : drop (i + 1) ws ≡ l ++ r = tail i a (l ++ r) d in
@@ -79,7 +80,8 @@ module _ (e : Engine) (vertices : List ℤ) (polygons : List ℕ)
       (machine (run exec (dueOf (r .begun)) (run exec (givenBy (r .command) new) t)) (pendingDue (r .begun) new))
   after-turn =
       let l : List A = take (u .many) (drop i ws) in
-      let size : length l ≡ u .many = length-take-le (u .many) (drop i ws) (omega (arith, u .within, length-drop i ws)) in
+      let size : length l ≡ u .many = length-take-le (u .many) (drop i ws)
+      (omega (arith, u .within, length-drop i ws)) in
       let ran : run exec (u .completed) (run exec (dueOf b) t)
       ≡ run exec (dueOf (r .begun)) (run exec (givenBy (r .command) new) t) =
       sym (run-append exec (dueOf b) (u .completed) t) ∙ ap (λ (cs : List Command). run exec cs t) (u .order)

@@ -16,15 +16,35 @@ use Rattle.stacks.proofs.SingleLaws.{ran-texture as by-texture, ran-pro
 -- the levels after a command on one of the three stacks
 abbrev pub pairMoved : Levels → Moved → Levels
 pairMoved l r =
-    record { mode = l .mode; pair = r .level; projection = l .projection; texture = l .texture; error = l .error || r .failed }
+    record {
+      mode = l .mode;
+      pair = r .level;
+      projection = l .projection;
+      texture = l .texture;
+      error = l .error ||
+          r .failed;
+    }
 
 abbrev pub projectionMoved : Levels → Moved → Levels
 projectionMoved l r =
-    record { mode = l .mode; pair = l .pair; projection = r .level; texture = l .texture; error = l .error || r .failed }
+    record {
+      mode = l .mode;
+      pair = l .pair;
+      projection = r .level;
+      texture = l .texture;
+      error = l .error || r .failed;
+    }
 
 abbrev pub textureMoved : Levels → Moved → Levels
 textureMoved l r =
-    record { mode = l .mode; pair = l .pair; projection = l .projection; texture = r .level; error = l .error || r .failed }
+    record {
+      mode = l .mode;
+      pair = l .pair;
+      projection = l .projection;
+      texture = r .level;
+      error = l .error ||
+          r .failed;
+    }
 
 module _ (k : StackCommand) (p : ℕ) (l : Levels) (a b s v projection slot texture tslot : List ℤ) where
   abbrev m : Matrices

@@ -21,8 +21,8 @@ moved level failed = record { level = level; failed = failed }
 
 -- ---- the matrices of their parts
 
-abbrev pub matricesOf : Transform → Stacks → Matrices
-matricesOf t s = record { transform = t; stacks = s }
+abbrev pub withStacks : Transform → Stacks → Matrices
+withStacks t s = record { transform = t; stacks = s }
 
 abbrev pub levelsOf : Transform → Levels
 levelsOf t =

@@ -16,15 +16,18 @@ use Rattle.feeding.proofs.feed_sound.Tie as tie
 -- the engine of the parts that it was taken apart into
 abbrev whole : tie.After-levels-of → Engine
 whole c =
-    let e = c .before .before .before .before .before .before .before .before .before .before .before .before .before .before .before .args .e in
+    let e = c .before .before .before .before .before .before .before .before .before .before .before .before .before
+    .before .before .args .e in
     let t = e .core .registers .transform in
     engineFrom (matricesFrom (c .levels-of .result) (t .pair .position) (t .pair .vector)
     (c .before .before .positions-of .result) (c .before .vectors-of .result) (t .projection .matrix)
     (t .projection .slot) (t .texture .matrix) (t .texture .slot)) (e .core .registers .geometry) (e .stream)
 
-whole-is : (c : tie.After-levels-of) → whole c ≡ c .before .before .before .before .before .before .before .before .before .before .before .before .before .before .before .args .e
+whole-is : (c : tie.After-levels-of) → whole c ≡ c .before .before .before .before .before .before .before .before
+    .before .before .before .before .before .before .before .args .e
 whole-is c u =
-    let e = c .before .before .before .before .before .before .before .before .before .before .before .before .before .before .before .args .e in
+    let e = c .before .before .before .before .before .before .before .before .before .before .before .before .before
+    .before .before .args .e in
     let t = e .core .registers .transform in
     engineFrom (matricesFrom (c .levels-of .ensures u) (t .pair .position) (t .pair .vector)
     (c .before .before .positions-of .ensures .0 u) (c .before .vectors-of .ensures .0 u) (t .projection .matrix)
@@ -41,13 +44,15 @@ levels-of-requires c κs = search needs
 
 run-turns-requires : tie.Need-run-turns-requires
 run-turns-requires c κs =
-    let s = c .before .before .before .before .before .before .before .before .before .before .before .before .before .before .before .before .before .before .before .before .before .before .before .before .before in
+    let s = c .before .before .before .before .before .before .before .before .before .before .before .before .before
+    .before .before .before .before .before .before .before .before .before .before .before .before in
+    let d = c .before .before .before .before .before .before .before .before .before .before in
     let a = s .args in (
       s .pre .0,
       (
-        (c .before .before .before .before .before .before .before .before .before .before .before .before .positions-of .ensures .1, c .before .before .before .before .before .before .before .before .before .before .before .vectors-of .ensures .1),
+        (d .before .before .positions-of .ensures .1, d .before .vectors-of .ensures .1),
         subst (λ (e : Engine). firstNumber e (length (a .vertices .now)) (length (a .polygons .now)) ≡ 0)
-            (sym (whole-is (c .before .before .before .before .before .before .before .before .before .before))) (s .pre .1),
+            (sym (whole-is d)) (s .pre .1),
       ),
     )
 
@@ -65,16 +70,21 @@ same-length-2 c = search needs
 
 returns : tie.Need-returns
 returns c =
-    let s = c .before .before .before .before .before .before .before .before .before .before .before .before .before .before .before .before .before .before .before .before .before .before .before .before .before .before .before .before .before .before .before .before in
+    let s = c .before .before .before .before .before .before .before .before .before .before .before .before .before
+    .before .before .before .before .before .before .before .before .before .before .before .before .before .before
+    .before .before .before .before .before in
     let a = s .args in
     let r = c .before .before .before .before .before .before .run-turns .result in
-    let vs = c .before .before .before .before .before .before .run-turns .last .1 .1 .1 .1 .1 .1 .1 .1 .1 .1 .1 .1 .1 .1 .0 in
-    let ps = c .before .before .before .before .before .before .run-turns .last .1 .1 .1 .1 .1 .1 .1 .1 .1 .1 .1 .1 .1 .1 .1 .0 in
+    let vs = c .before .before .before .before .before .before .run-turns .last .1 .1 .1 .1 .1 .1 .1 .1 .1 .1 .1 .1 .1
+    .1 .0 in
+    let ps = c .before .before .before .before .before .before .run-turns .last .1 .1 .1 .1 .1 .1 .1 .1 .1 .1 .1 .1 .1
+    .1 .1 .0 in
     ap (λ (f : FedAnswer). fedOf f vs ps) (c .put-together .ensures)
     ∙ ap (λ (m : Matrices). endedAs r m vs ps) (c .before .matrices-from .ensures)
     ∙ c .before .before .before .before .before .before .run-turns .ensures
     ∙ ap (λ (e : Engine). feedAs (a .log) (machineOf e (a .vertices .now) (a .polygons .now)) (a .words .now))
-    (whole-is (c .before .before .before .before .before .before .before .before .before .before .before .before .before .before .before .before .before))
+    (whole-is (c .before .before .before .before .before .before .before .before .before .before .before .before .before
+    .before .before .before .before))
 
 pub feed-sound-spec : {M : Type 1} → statement M
 feed-sound-spec =

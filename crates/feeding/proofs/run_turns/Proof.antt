@@ -40,15 +40,21 @@ abbrev streamWith : Begun → List ℕ → Stream
 streamWith b held = record { queue = b .queue; held = held; count = b .count; dummy = b .dummy; port = b .port }
 
 abbrev Inv-loop : tie.InvT-loop
-Inv-loop table log words position₀ vector₀ positions₀ vectors₀ projection₀ projection-slot₀ texture₀ texture-slot₀ vertices₀ polygons₀ work₀ begun₀ packed levels₀ clip₀ clipped₀ i₀ position vector positions vectors projection projection-slot texture texture-slot vertices polygons work begun levels clip clipped i =
+Inv-loop table log words position₀ vector₀ positions₀ vectors₀ projection₀ projection-slot₀ texture₀ texture-slot₀
+    vertices₀ polygons₀ work₀ begun₀ packed levels₀ clip₀ clipped₀ i₀ position vector positions vectors projection
+    projection-slot texture texture-slot vertices polygons work begun levels clip clipped i =
     Feeding
-    (engineFrom (matricesFrom levels₀ position₀ vector₀ positions₀ vectors₀ projection₀ projection-slot₀ texture₀ texture-slot₀)
+    (engineFrom (matricesFrom levels₀ position₀ vector₀ positions₀ vectors₀ projection₀ projection-slot₀ texture₀
+    texture-slot₀)
     (work₀ .geometry) (streamWith begun₀ (work₀ .held))) vertices₀ polygons₀ log packed words i begun (work .held)
-    (matricesFrom levels position vector positions vectors projection projection-slot texture texture-slot) (work .geometry)
+    (matricesFrom levels position vector positions vectors projection projection-slot texture texture-slot)
+    (work .geometry)
     vertices polygons clip clipped
 
 abbrev μ-loop : tie.MeasureT-loop
-μ-loop table log words position₀ vector₀ positions₀ vectors₀ projection₀ projection-slot₀ texture₀ texture-slot₀ vertices₀ polygons₀ work₀ begun₀ packed levels₀ clip₀ clipped₀ i₀ position vector positions vectors projection projection-slot texture texture-slot vertices polygons work begun levels clip clipped i =
+μ-loop table log words position₀ vector₀ positions₀ vectors₀ projection₀ projection-slot₀ texture₀ texture-slot₀
+    vertices₀ polygons₀ work₀ begun₀ packed levels₀ clip₀ clipped₀ i₀ position vector positions vectors projection
+    projection-slot texture texture-slot vertices polygons work begun levels clip clipped i =
     toCome (itemsIn log (length words)) i begun
 
 -- ---- where the loop begins
@@ -56,7 +62,8 @@ abbrev μ-loop : tie.MeasureT-loop
 abbrev matrices : tie.After-begun-of Inv-loop μ-loop → Matrices
 matrices c =
     let a = c .before .before .before .before .args in
-    matricesFrom (a .given) (a .position .now) (a .vector .now) (a .positions .now) (a .vectors .now) (a .projection .now) (a .projection-slot .now) (a .texture .now) (a .texture-slot .now)
+    matricesFrom (a .given) (a .position .now) (a .vector .now) (a .positions .now) (a .vectors .now)
+    (a .projection .now) (a .projection-slot .now) (a .texture .now) (a .texture-slot .now)
 
 -- the engine, of the values that the loop begins with
 abbrev begins : tie.After-begun-of Inv-loop μ-loop → Engine
@@ -85,7 +92,8 @@ first-is c =
 abbrev current : tie.At-loop Inv-loop μ-loop → Matrices
 current c =
     let l = c .loop in
-    matricesFrom (l .levels) (l .position) (l .vector) (l .positions) (l .vectors) (l .projection) (l .projection-slot) (l .texture) (l .texture-slot)
+    matricesFrom (l .levels) (l .position) (l .vector) (l .positions) (l .vectors) (l .projection) (l .projection-slot)
+    (l .texture) (l .texture-slot)
 
 -- the parameters that are held after the turn
 abbrev held : tie.After-turn-at Inv-loop μ-loop → List ℕ
@@ -131,7 +139,8 @@ module _ (c : tie.After-operation-of Inv-loop μ-loop) where
       → (clipped ≡ true → clip ≡ clipMatrix (m .transform .pair .position) (m .transform .projection .matrix))
       → length (m .stacks .positions) ≡ 496 → length (m .stacks .vectors) ≡ 496
       → (let a = at .before .before .before .before .before .before .args in
-      Feeding (begins (at .before .before)) (a .vertices .now) (a .polygons .now) (a .log) (at .before .is-packed .result) (a .words .now)
+      Feeding (begins (at .before .before)) (a .vertices .now) (a .polygons .now) (a .log)
+      (at .before .is-packed .result) (a .words .now)
       (turned .turn-at .result .next) (turned .turn-at .result .begun) (held turned) m g vs ps clip clipped)
   unfolding execute
   again o is m g vs ps clip clipped ran clip-is positions-long vectors-long =
@@ -139,7 +148,8 @@ module _ (c : tie.After-operation-of Inv-loop μ-loop) where
       let a = at .before .before .before .before .before .before .args in
       let call = turned .turn-at in
       record {
-        looping = looping-ran (begins (at .before .before)) (a .vertices .now) (a .polygons .now) (first-is (at .before .before))
+        looping = looping-ran (begins (at .before .before)) (a .vertices .now) (a .polygons .now)
+            (first-is (at .before .before))
             (a .words .now) (l .i) (l .begun) (l .work .held) before-it (call .result) (held turned) (a .log)
             (l .inv .looping)
             (call .ensures .0) (call .ensures .1 .0) (call .ensures .1 .1) (buffered (coreFrom m g) vs ps)
@@ -209,14 +219,17 @@ run-stack-in-place-requires c κs =
 
 loop-less : tie.Need-loop-less Inv-loop μ-loop
 loop-less c =
-    less (c .before .before .before .before .before .before .before .before .before .before .before .before .before .before)
+    less (c .before .before .before .before .before .before .before .before .before .before .before .before .before
+    .before)
 
 loop-again : tie.Need-loop-again Inv-loop μ-loop
 loop-again c =
     let o = c .before .before .before .before .before .before .before .before .before .before .before .before .before in
     let l = at o .loop in
-    again (o) _ (c .before .before .before .before .before .before .before .before .before .before .before .k .given .1) (_) (l .work .geometry) (l .vertices) (l .polygons) (l .clip) false
-    (ran-stack (current (at o)) (l .work .geometry) (l .vertices) (l .polygons) (held (turned o)) _ _ (c .run-stack-in-place .ensures .0))
+    again (o) _ (c .before .before .before .before .before .before .before .before .before .before .before .k .given .1)
+    (_) (l .work .geometry) (l .vertices) (l .polygons) (l .clip) false
+    (ran-stack (current (at o)) (l .work .geometry) (l .vertices) (l .polygons) (held (turned o)) _ _
+    (c .run-stack-in-place .ensures .0))
     (λ t. absurd (false≢true t))
     (c .run-stack-in-place .ensures .1 .0) (c .run-stack-in-place .ensures .1 .1)
 
@@ -230,18 +243,23 @@ enum-known-r-2 c =
 
 run-matrix-in-place-requires : tie.Need-run-matrix-in-place-requires Inv-loop μ-loop
 run-matrix-in-place-requires c κs =
-    held-long (c .before .before .before .before .before .before .before .before .before .before .before .before .before .before .before)
+    held-long (c .before .before .before .before .before .before .before .before .before .before .before .before .before
+    .before .before)
 
 loop-less-2 : tie.Need-loop-less-2 Inv-loop μ-loop
 loop-less-2 c =
-    less (c .before .before .before .before .before .before .before .before .before .before .before .before .before .before)
+    less (c .before .before .before .before .before .before .before .before .before .before .before .before .before
+    .before)
 
 loop-again-2 : tie.Need-loop-again-2 Inv-loop μ-loop
 loop-again-2 c =
     let o = c .before .before .before .before .before .before .before .before .before .before .before .before .before in
     let l = at o .loop in
-    again (o) _ (c .before .before .before .before .before .before .before .before .before .before .before .r .given .1 ∙ ap Register (c .before .before .before .before .before .before .before .before .r2 .given .1)) (_) (l .work .geometry) (l .vertices) (l .polygons) (l .clip) false
-    (ran-matrix (current (at o)) (l .work .geometry) (l .vertices) (l .polygons) (held (turned o)) _ _ (c .run-matrix-in-place .ensures (current (at o) .transform)))
+    again (o) _ (c .before .before .before .before .before .before .before .before .before .before .before .r .given .1
+    ∙ ap Register (c .before .before .before .before .before .before .before .before .r2 .given .1)) (_)
+    (l .work .geometry) (l .vertices) (l .polygons) (l .clip) false
+    (ran-matrix (current (at o)) (l .work .geometry) (l .vertices) (l .polygons) (held (turned o)) _ _
+    (c .run-matrix-in-place .ensures (current (at o) .transform)))
     (λ t. absurd (false≢true t))
     (l .inv .positions-long) (l .inv .vectors-long)
 
@@ -265,7 +283,9 @@ loop-again-3 : tie.Need-loop-again-3 Inv-loop μ-loop
 loop-again-3 c =
     let o = c .before .before .before .before .before .before .before .before .before .before in
     let l = at o .loop in
-    again (o) _ (c .before .before .before .before .before .before .before .before .r .given .1 ∙ ap Register (c .before .before .before .before .before .r3 .given .1 ∙ ap Drawn (c .before .before .enum-told .given .1))) (current (at o)) (_) (l .vertices) (l .polygons) (l .clip) (l .clipped)
+    again (o) _ (c .before .before .before .before .before .before .before .before .r .given .1 ∙ ap Register
+    (c .before .before .before .before .before .r3 .given .1 ∙ ap Drawn (c .before .before .enum-told .given .1)))
+    (current (at o)) (_) (l .vertices) (l .polygons) (l .clip) (l .clipped)
     (ran-colour (current (at o)) (l .work .geometry) (l .vertices) (l .polygons) (held (turned o)))
     (l .inv .clip-is)
     (l .inv .positions-long) (l .inv .vectors-long)
@@ -282,14 +302,17 @@ loop-again-4 : tie.Need-loop-again-4 Inv-loop μ-loop
 loop-again-4 c =
     let o = c .before .before .before .before .before .before .before .before in
     let l = at o .loop in
-    again (o) _ (c .before .before .before .before .before .before .r .given .1 ∙ ap Register (c .before .before .before .r3 .given .1 ∙ ap Drawn (c .enum-told2 .given .1))) (current (at o)) (l .work .geometry) (l .vertices) (l .polygons) (l .clip) (l .clipped)
+    again (o) _ (c .before .before .before .before .before .before .r .given .1 ∙ ap Register
+    (c .before .before .before .r3 .given .1 ∙ ap Drawn (c .enum-told2 .given .1))) (current (at o))
+    (l .work .geometry) (l .vertices) (l .polygons) (l .clip) (l .clipped)
     (ran-end (current (at o)) (l .work .geometry) (l .vertices) (l .polygons) (held (turned o)))
     (l .inv .clip-is)
     (l .inv .positions-long) (l .inv .vectors-long)
 
 refresh-clip-requires : tie.Need-refresh-clip-requires Inv-loop μ-loop
 refresh-clip-requires c κs =
-    c .before .before .before .before .before .before .before .before .before .before .before .before .before .before .before .loop .inv .clip-is
+    c .before .before .before .before .before .before .before .before .before .before .before .before .before .before
+    .before .loop .inv .clip-is
 
 element-copy-out-run-geometry : tie.Need-element-copy-out-run-geometry Inv-loop μ-loop
 element-copy-out-run-geometry c =
@@ -301,23 +324,32 @@ element-copy-out-run-geometry-2 c =
 
 run-geometry-requires : tie.Need-run-geometry-requires Inv-loop μ-loop
 run-geometry-requires c κs =
-    let s = c .before .before .before .before .before .before .before .before .before .before .before .before .before .before .before .before .before .before .before .before .before in
+    let s = c .before .before .before .before .before .before .before .before .before .before .before .before .before
+    .before .before .before .before .before .before .before .before in
     let l = s .loop in
     let a = s .before .before .before .before .before .before .args in (
       core-parts (coreFrom (current s) (l .work .geometry)) (l .inv .looping .kept .sound) .1,
-      looping-long (begins (s .before .before)) (a .vertices .now) (a .polygons .now) (first-is (s .before .before)) (l .inv .looping),
+      looping-long (begins (s .before .before)) (a .vertices .now) (a .polygons .now) (first-is (s .before .before))
+          (l .inv .looping),
     )
 
 loop-less-5 : tie.Need-loop-less-5 Inv-loop μ-loop
 loop-less-5 c =
-    less (c .before .before .before .before .before .before .before .before .before .before .before .before .before .before .before .before .before .before .before .before .before)
+    less (c .before .before .before .before .before .before .before .before .before .before .before .before .before
+    .before .before .before .before .before .before .before .before)
 
 loop-again-5 : tie.Need-loop-again-5 Inv-loop μ-loop
 loop-again-5 c =
-    let o = c .before .before .before .before .before .before .before .before .before .before .before .before .before .before .before .before .before .before .before .before in
+    let o = c .before .before .before .before .before .before .before .before .before .before .before .before .before
+    .before .before .before .before .before .before .before in
     let l = at o .loop in
-    again (o) _ (c .before .before .before .before .before .before .before .before .before .before .before .before .before .before .before .before .before .before .r .given .1 ∙ ap Register (c .before .before .before .before .before .before .before .before .before .before .before .before .before .before .before .r3 .given .1)) (current (at o)) (_) (_) (_) (_) true
-    (ran-geometry (current (at o)) (l .work .geometry) (l .vertices) (l .polygons) (held (turned o)) _ _ _ _ _ (c .before .before .before .before .before .before .before .before .before .refresh-clip .ensures) (c .before .before .before .run-geometry .ensures))
+    again (o) _ (c .before .before .before .before .before .before .before .before .before .before .before .before
+    .before .before .before .before .before .before .r .given .1 ∙ ap Register
+    (c .before .before .before .before .before .before .before .before .before .before .before .before .before
+    .before .before .r3 .given .1)) (current (at o)) (_) (_) (_) (_) true
+    (ran-geometry (current (at o)) (l .work .geometry) (l .vertices) (l .polygons) (held (turned o)) _ _ _ _ _
+    (c .before .before .before .before .before .before .before .before .before .refresh-clip .ensures)
+    (c .before .before .before .run-geometry .ensures))
     (λ t. c .before .before .before .before .before .before .before .before .before .refresh-clip .ensures)
     (l .inv .positions-long) (l .inv .vectors-long)
 
@@ -333,7 +365,8 @@ loop-again-6 : tie.Need-loop-again-6 Inv-loop μ-loop
 loop-again-6 c =
     let o = c .before .before .before .before .before in
     let l = at o .loop in
-    again (o) _ (c .before .before .before .r .given .1 ∙ ap Register (c .enum-told3 .given .1)) (current (at o)) (l .work .geometry) (l .vertices) (l .polygons) (l .clip) (l .clipped)
+    again (o) _ (c .before .before .before .r .given .1 ∙ ap Register (c .enum-told3 .given .1)) (current (at o))
+    (l .work .geometry) (l .vertices) (l .polygons) (l .clip) (l .clipped)
     (ran-carried (current (at o)) (l .work .geometry) (l .vertices) (l .polygons) (held (turned o)))
     (l .inv .clip-is)
     (l .inv .positions-long) (l .inv .vectors-long)
@@ -350,7 +383,8 @@ loop-again-7 : tie.Need-loop-again-7 Inv-loop μ-loop
 loop-again-7 c =
     let o = c .before .before .before .before .before in
     let l = at o .loop in
-    again (o) _ (c .before .before .before .r .given .1 ∙ ap Register (c .enum-told4 .given .1)) (current (at o)) (l .work .geometry) (l .vertices) (l .polygons) (l .clip) (l .clipped)
+    again (o) _ (c .before .before .before .r .given .1 ∙ ap Register (c .enum-told4 .given .1)) (current (at o))
+    (l .work .geometry) (l .vertices) (l .polygons) (l .clip) (l .clipped)
     (ran-none (current (at o)) (l .work .geometry) (l .vertices) (l .polygons) (held (turned o)))
     (l .inv .clip-is)
     (l .inv .positions-long) (l .inv .vectors-long)
@@ -380,14 +414,18 @@ returns c =
     let first = first-is (s .before .before) in
     let t : Buffered Core = buffered (coreFrom (current s) (l .work .geometry)) (l .vertices) (l .polygons) in
     let end = c .before .before .before .if1 .taken in
-    ap (λ (x : Stream). fed (r .next) (r .number) (machineOf (engineFrom (current s) (l .work .geometry) x) (l .vertices) (l .polygons)))
+    ap (λ (x : Stream). fed (r .next) (r .number) (machineOf (engineFrom (current s) (l .work .geometry) x)
+    (l .vertices) (l .polygons)))
     (c .stream-of .ensures)
     ∙ ap (λ (p : Pending). fed (r .next) (r .number) (machine t p))
     (end-pending (r .begun) new (told .1 .2)
-    (end-fit e (a .vertices .now) (a .polygons .now) first (a .words .now) (l .i) (l .begun) (l .work .held) t r new (a .log) (told .0))
-    (end-due e (a .vertices .now) (a .polygons .now) first (a .words .now) (l .i) (l .begun) (l .work .held) t r new (a .log) (told .0) end)
+    (end-fit e (a .vertices .now) (a .polygons .now) first (a .words .now) (l .i) (l .begun) (l .work .held) t r new
+    (a .log) (told .0))
+    (end-due e (a .vertices .now) (a .polygons .now) first (a .words .now) (l .i) (l .begun) (l .work .held) t r new
+    (a .log) (told .0) end)
     _ refl)
-    ∙ ended-as e (a .vertices .now) (a .polygons .now) first (a .words .now) (l .i) (l .begun) (l .work .held) t r new (a .log)
+    ∙ ended-as e (a .vertices .now) (a .polygons .now) first (a .words .now) (l .i) (l .begun) (l .work .held) t r new
+    (a .log)
     (l .inv .looping) (told .0) end
     ∙ ap (λ (e : Engine). feedAs (a .log) (machineOf e (a .vertices .now) (a .polygons .now)) (a .words .now))
     (begins-is (s .before .before))

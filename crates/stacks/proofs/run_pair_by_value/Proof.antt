@@ -15,9 +15,13 @@ run-pair-requires c κs = search needs
 
 returns : tie.Need-returns
 returns c =
-    let m = c .before .before .before .before .before .before .before .before .before .before .before .before .before .args .m in
+    let m = c .before .before .before .before .before .before .before .before .before .before .before .before .before
+    .args .m in
     c .before .before .run-pair .ensures .0 m (m .transform .error)
-    ∙ rw (c .before .before .before .before .before .before .before .vectors-of .ensures .0, c .before .before .before .before .before .before .before .before .positions-of .ensures .0)
+    ∙ rw (
+      c .before .before .before .before .before .before .before .vectors-of .ensures .0,
+      c .before .before .before .before .before .before .before .before .positions-of .ensures .0,
+    )
 
 pub run-pair-by-value-spec : {M : Type 1} → statement M
 run-pair-by-value-spec =

@@ -1,5 +1,5 @@
 -- `stacks::run_single_by_value` meets its contract.
-use Rattle.stacks.specs.Inside.{matricesOf}
+use Rattle.stacks.specs.Inside.{withStacks}
 use Rattle.stacks.proofs.SingleLaws.{ran-texture, ran-projection}
 use borrow.Author.Needs.{needs}
 use Rattle.stacks.proofs.run_single_by_value.Statement.{statement}
@@ -15,7 +15,10 @@ returns : tie.Need-returns
 returns c =
     λ s.
     rw (c .before .before .single-from .ensures)
-    (ran-texture (c .before .before .before .before .before .before .before .before .before .before .args .command) (matricesOf (c .before .before .before .before .before .before .before .before .before .before .args .t) s) (c .before .before .before .run-single .result) _ _ (c .before .before .before .before .before .before .before .before .if1 .taken)
+    (ran-texture (c .before .before .before .before .before .before .before .before .before .before .args .command)
+    (withStacks (c .before .before .before .before .before .before .before .before .before .before .args .t) s)
+    (c .before .before .before .run-single .result) _ _ (c .before .before .before .before .before .before .before
+    .before .if1 .taken)
     (c .before .before .before .run-single .ensures))
 
 run-single-requires-2 : tie.Need-run-single-requires-2
@@ -28,7 +31,10 @@ returns-2 : tie.Need-returns-2
 returns-2 c =
     λ s.
     rw (c .before .before .single-from2 .ensures)
-    (ran-projection (c .before .before .before .before .before .before .before .before .before .before .args .command) (matricesOf (c .before .before .before .before .before .before .before .before .before .before .args .t) s) (c .before .before .before .run-single2 .result) _ _ (c .before .before .before .before .before .before .before .before .if1 .left)
+    (ran-projection (c .before .before .before .before .before .before .before .before .before .before .args .command)
+    (withStacks (c .before .before .before .before .before .before .before .before .before .before .args .t) s)
+    (c .before .before .before .run-single2 .result) _ _ (c .before .before .before .before .before .before .before
+    .before .if1 .left)
     (c .before .before .before .run-single2 .ensures))
 
 pub run-single-by-value-spec : {M : Type 1} → statement M

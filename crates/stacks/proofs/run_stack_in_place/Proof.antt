@@ -16,7 +16,9 @@ returns c =
     let a = c .before .before .before .before .before .before .before .before .before .args in (
       ran-pair (a .command) (a .p) (a .levels) (a .position .now) (a .vector .now) (a .positions .now) (a .vectors .now)
           (a .projection .now) (a .projection-slot .now) (a .texture .now) (a .texture-slot .now)
-          (sym (c .before .before .before .before .before .before .before .before .uses-pair .ensures) ∙ c .before .before .before .before .before .before .before .if1 .taken) (c .before .before .run-pair .result) _ _ _ _ (c .before .before .run-pair .ensures .0),
+          (sym (c .before .before .before .before .before .before .before .before .uses-pair .ensures) ∙
+          c .before .before .before .before .before .before .before .if1 .taken)
+          (c .before .before .run-pair .result) _ _ _ _ (c .before .before .run-pair .ensures .0),
       c .before .before .run-pair .ensures .1,
     )
 
@@ -26,9 +28,13 @@ run-single-requires c κs = search needs
 returns-2 : tie.Need-returns-2
 returns-2 c =
     let a = c .before .before .before .before .before .before .before .before .before .args in (
-      ran-texture (a .command) (a .p) (a .levels) (a .position .now) (a .vector .now) (a .positions .now) (a .vectors .now)
+      ran-texture (a .command) (a .p) (a .levels) (a .position .now) (a .vector .now) (a .positions .now)
+          (a .vectors .now)
           (a .projection .now) (a .projection-slot .now) (a .texture .now) (a .texture-slot .now)
-          (sym (c .before .before .before .before .before .before .before .before .uses-pair .ensures) ∙ c .before .before .before .before .before .before .before .if1 .left) (c .before .before .before .before .before .if2 .taken) (c .before .before .run-single .result) _ _ (c .before .before .run-single .ensures),
+          (sym (c .before .before .before .before .before .before .before .before .uses-pair .ensures) ∙
+          c .before .before .before .before .before .before .before .if1 .left)
+          (c .before .before .before .before .before .if2 .taken) (c .before .before .run-single .result) _ _
+          (c .before .before .run-single .ensures),
       c .before .before .before .before .before .before .before .before .before .pre .1,
     )
 
@@ -38,9 +44,13 @@ run-single-requires-2 c κs = search needs
 returns-3 : tie.Need-returns-3
 returns-3 c =
     let a = c .before .before .before .before .before .before .before .before .before .args in (
-      ran-projection (a .command) (a .p) (a .levels) (a .position .now) (a .vector .now) (a .positions .now) (a .vectors .now)
+      ran-projection (a .command) (a .p) (a .levels) (a .position .now) (a .vector .now) (a .positions .now)
+          (a .vectors .now)
           (a .projection .now) (a .projection-slot .now) (a .texture .now) (a .texture-slot .now)
-          (sym (c .before .before .before .before .before .before .before .before .uses-pair .ensures) ∙ c .before .before .before .before .before .before .before .if1 .left) (c .before .before .before .before .before .if2 .left) (c .before .before .run-single2 .result) _ _ (c .before .before .run-single2 .ensures),
+          (sym (c .before .before .before .before .before .before .before .before .uses-pair .ensures) ∙
+          c .before .before .before .before .before .before .before .if1 .left)
+          (c .before .before .before .before .before .if2 .left) (c .before .before .run-single2 .result) _ _
+          (c .before .before .run-single2 .ensures),
       c .before .before .before .before .before .before .before .before .before .pre .1,
     )
 

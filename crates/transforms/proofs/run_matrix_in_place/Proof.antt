@@ -17,7 +17,8 @@ element-copy-out-result c = search needs
 returns : tie.Need-returns
 returns c =
     let a = c .before .before .before .args in
-    acts-mode (a .command) (a .p .now) (a .mode) (a .position .now) (a .vector .now) (a .projection .now) (a .texture .now)
+    acts-mode (a .command) (a .p .now) (a .mode) (a .position .now) (a .vector .now) (a .projection .now)
+    (a .texture .now)
     (sym (c .before .before .reach-of .ensures) ∙ c .before .if1 .taken)
 
 uses-pair-requires : tie.Need-uses-pair-requires
@@ -40,8 +41,11 @@ returns-2 c =
     let a = c .before .before .before .before .before .before .before .before .before .args in
     let is = c .before .before .before .before .before .before .before .before .reach-of .ensures in
     rw (c .act-on2 .ensures, c .before .before .before .act-on .ensures)
-    (acts-both (a .command) (a .p .now) (a .mode) (a .position .now) (a .vector .now) (a .projection .now) (a .texture .now)
-    (λ z. c .before .before .before .before .before .before .before .if1 .left (is ∙ z)) (sym (c .before .before .before .before .before .before .uses-pair .ensures) ∙ c .before .before .before .before .before .if2 .taken)
+    (acts-both (a .command) (a .p .now) (a .mode) (a .position .now) (a .vector .now) (a .projection .now)
+    (a .texture .now)
+    (λ z. c .before .before .before .before .before .before .before .if1 .left (is ∙ z))
+    (sym (c .before .before .before .before .before .before .uses-pair .ensures) ∙ c .before .before .before .before
+    .before .if2 .taken)
     (ap (λ (n : ℕ). eqb (a .mode) 2 && eqb n 2) (sym is) ∙ c .before .before .if3 .taken))
 
 returns-3 : tie.Need-returns-3
@@ -49,23 +53,33 @@ returns-3 c =
     let a = c .before .before .before .before .before .before .before .args in
     let is = c .before .before .before .before .before .before .reach-of .ensures in
     rw (c .before .act-on .ensures)
-    (acts-position (a .command) (a .p .now) (a .mode) (a .position .now) (a .vector .now) (a .projection .now) (a .texture .now)
-    (λ z. c .before .before .before .before .before .if1 .left (is ∙ z)) (sym (c .before .before .before .before .uses-pair .ensures) ∙ c .before .before .before .if2 .taken)
+    (acts-position (a .command) (a .p .now) (a .mode) (a .position .now) (a .vector .now) (a .projection .now)
+    (a .texture .now)
+    (λ z. c .before .before .before .before .before .if1 .left (is ∙ z))
+    (sym (c .before .before .before .before .uses-pair .ensures) ∙ c .before .before .before .if2 .taken)
     (ap (λ (n : ℕ). eqb (a .mode) 2 && eqb n 2) (sym is) ∙ c .if3 .left))
 
 returns-4 : tie.Need-returns-4
 returns-4 c =
     let a = c .before .before .before .before .before .before .before .args in
     rw (c .act-on3 .ensures)
-    (acts-texture (a .command) (a .p .now) (a .mode) (a .position .now) (a .vector .now) (a .projection .now) (a .texture .now)
-    (λ z. c .before .before .before .before .before .if1 .left (c .before .before .before .before .before .before .reach-of .ensures ∙ z)) (sym (c .before .before .before .before .uses-pair .ensures) ∙ c .before .before .before .if2 .left) (c .before .before .if4 .taken))
+    (acts-texture (a .command) (a .p .now) (a .mode) (a .position .now) (a .vector .now) (a .projection .now)
+    (a .texture .now)
+    (λ z. c .before .before .before .before .before .if1 .left
+    (c .before .before .before .before .before .before .reach-of .ensures ∙ z))
+    (sym (c .before .before .before .before .uses-pair .ensures) ∙ c .before .before .before .if2 .left)
+    (c .before .before .if4 .taken))
 
 returns-5 : tie.Need-returns-5
 returns-5 c =
     let a = c .before .before .before .before .before .before .before .args in
     rw (c .act-on4 .ensures)
-    (acts-projection (a .command) (a .p .now) (a .mode) (a .position .now) (a .vector .now) (a .projection .now) (a .texture .now)
-    (λ z. c .before .before .before .before .before .if1 .left (c .before .before .before .before .before .before .reach-of .ensures ∙ z)) (sym (c .before .before .before .before .uses-pair .ensures) ∙ c .before .before .before .if2 .left) (c .before .before .if4 .left))
+    (acts-projection (a .command) (a .p .now) (a .mode) (a .position .now) (a .vector .now) (a .projection .now)
+    (a .texture .now)
+    (λ z. c .before .before .before .before .before .if1 .left
+    (c .before .before .before .before .before .before .reach-of .ensures ∙ z))
+    (sym (c .before .before .before .before .uses-pair .ensures) ∙ c .before .before .before .if2 .left)
+    (c .before .before .if4 .left))
 
 pub run-matrix-in-place-spec : {M : Type 1} → statement M
 run-matrix-in-place-spec =

@@ -124,7 +124,8 @@ returns-3 : tie.Need-returns-3
 returns-3 c =
     let d = c .before .before .before .before .before .before .before in
     let h = c .before .before .hold-writes in (
-      write-last (d .before .before .before .pre .1) (takes d) (h .result) (h .ensures .1 .0) (inside (c .before .before))
+      write-last (d .before .before .before .pre .1) (takes d) (h .result) (h .ensures .1 .0)
+          (inside (c .before .before))
           (h .ensures .0)
           (omega (arith, few d, d .before .count-in .ensures, c .before .if3 .taken)) (c .runs3 .ensures),
       same-packed (c .runs3 .ensures),
@@ -143,7 +144,8 @@ returns-4 : tie.Need-returns-4
 returns-4 c =
     let d = c .before .before .before .before .before .before .before in
     let h = c .before .before .hold-writes in (
-      write-more (d .before .before .before .pre .1) (takes d) (h .result) (h .ensures .1 .0) (inside (c .before .before))
+      write-more (d .before .before .before .pre .1) (takes d) (h .result) (h .ensures .1 .0)
+          (inside (c .before .before))
           (h .ensures .0)
           (omega (arith, few d, d .before .count-in .ensures, c .before .if3 .left, lacking (c .before .before)))
           (c .goes-on .ensures),

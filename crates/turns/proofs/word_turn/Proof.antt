@@ -80,7 +80,8 @@ ends-requires-3 : tie.Need-ends-requires-3
 ends-requires-3 c κs = search needs
 
 -- the word has a hole, or not
-holed : (c : tie.After-has-hole) → let a = c .before .before .before .before .before .before .before .before .before .before .before .args in
+holed : (c : tie.After-has-hole) → let a = c .before .before .before .before .before .before .before .before .before
+    .before .before .args in
     c .has-hole .result ≡ hole (commandBytes (getD (a .words .now) (a .i) 0))
 holed c = c .has-hole .ensures ∙ ap hole (c .before .command-bytes-in .ensures)
 
@@ -88,7 +89,8 @@ returns-5 : tie.Need-returns-5
 returns-5 c =
     let d = c .before .before .before .before .before .before .before .before in
     word-hole _ _ _ _ (d .before .before .before .before .before .pre .1 .0) (unknown (d .before)) (inside d)
-    (c .before .before .before .before .before .before .if3 .left) (c .before .before .before .before .before .if4 .left)
+    (c .before .before .before .before .before .before .if3 .left)
+    (c .before .before .before .before .before .if4 .left)
     (sym (holed (c .before .before)) ∙ c .before .if5 .taken) (c .ends3 .ensures)
 
 add-goes-on-2 : tie.Need-add-goes-on-2
@@ -104,7 +106,8 @@ returns-6 c =
     let fits : getD (a .words .now) (a .i) 0 < 2 ^ 32 =
     omega (arith, c .before .before .before .before .shared-slice-known2 .given (a .i)) in
     word-word _ _ _ _ (d .before .before .before .before .before .pre .1 .0) (unknown (d .before)) (inside d)
-    (c .before .before .before .before .before .before .if3 .left) (c .before .before .before .before .before .if4 .left)
+    (c .before .before .before .before .before .before .if3 .left)
+    (c .before .before .before .before .before .if4 .left)
     fits (sym (holed (c .before .before)) ∙ c .before .if5 .left) (c .goes-on2 .ensures)
 
 pub word-turn-spec : {M : Type 1} → statement M
