@@ -95,9 +95,9 @@ pub struct Counts {
 // `given` are the attributes last given by 29h, `attributes` those in force; `used` says how many records the caller's
 // buffers hold, `rooms` (document 01's word for the capacities) how many they may hold.
 pub struct Geometry {
-    pub colour: u32,
     pub given: u32,
     pub attributes: u32,
+    pub colour: u32,
     pub position: Coordinates,
     pub waiting: Waiting,
     pub used: Counts,
