@@ -1,8 +1,12 @@
 -- `turns::parameters_turn` meets its contract.
-use Prim.Native.Nat.{_-_, _%_, _^_, _≤_, _<_}
+use mathlib.Core.Bool.{false}
+use mathlib.Core.Path.{ap, _∙_}
+use Prim.Native.Nat.{_+_, _-_, _%_, _^_, _≤_, _<_}
 use native.Mathlib.Omega.{arith}
 use lib.ListN.{length}
 use Rattle.commands.proofs.Table.{count-small}
+use Rattle.turns.specs.declared.Begun.{Begun}
+use Rattle.turns.proofs.TurnLaws.{turn}
 use Rattle.turns.proofs.WordTurn.{held-few, word-at-once, word-complete, word-short}
 use borrow.Author.Needs.{needs}
 use Rattle.turns.proofs.parameters_turn.Statement.{statement}
@@ -33,10 +37,11 @@ returns : tie.Need-returns
 returns c =
     let d = c .before .before .before in
     let s = d .before .before .before in
-    let fits : s .args .b .queue < 2 ^ 32 = search needs in
+    let a = s .args in
+    let fits : a .b .queue < 2 ^ 32 = search needs in
     word-at-once _ _ _ _ (s .pre .1 .1 .1) fits (s .pre .1 .0 .0) (s .pre .1 .0 .1)
     (omega (arith, few d, d .count-in .ensures, c .before .before .if1 .taken)) (s .pre .1 .1 .0)
-    (rw (← c .before .behind .ensures) (c .runs .ensures))
+    (c .runs .ensures ∙ ap (λ (n : Begun). turn (a .i) n (a .b .queue % 256) 0 false) (c .before .behind .ensures))
 
 sub-left : tie.Need-sub-left
 sub-left c = search needs
@@ -88,12 +93,14 @@ returns-3 c =
     let d = c .before .before .before .before .before .before in
     let s = d .before .before .before in
     let a = s .args in
+    let lacks = d .count-in .result - a .b .count in
     let fits : a .b .queue < 2 ^ 32 = search needs in
-    word-complete _ _ _ _ (s .pre .1 .1 .1) fits (s .pre .1 .0 .0) (s .pre .1 .0 .1) (d .count-in .result - a .b .count)
+    word-complete _ _ _ _ (s .pre .1 .1 .1) fits (s .pre .1 .0 .0) (s .pre .1 .0 .1) lacks
     (omega (arith, few d, c .before .before .before .before .before .if1 .left))
     (omega (arith, few d, d .count-in .ensures))
     (omega (arith, few d, s .pre .1 .1 .0, c .before .before .before .before .if2 .left))
-    (c .before .before .hold-words2 .ensures) (rw (← c .before .behind2 .ensures) (c .runs2 .ensures))
+    (c .before .before .hold-words2 .ensures)
+    (c .runs2 .ensures ∙ ap (λ (n : Begun). turn (a .i + lacks) n (a .b .queue % 256) 0 false) (c .before .behind2 .ensures))
 
 pub parameters-turn-spec : {M : Type 1} → statement M
 parameters-turn-spec =
