@@ -100,7 +100,8 @@ returns-3 c =
     (omega (arith, few d, d .count-in .ensures))
     (omega (arith, few d, s .pre .1 .1 .0, c .before .before .before .before .if2 .left))
     (c .before .before .hold-words2 .ensures)
-    (c .runs2 .ensures ∙ ap (λ (n : Begun). turn (a .i + lacks) n (a .b .queue % 256) 0 false) (c .before .behind2 .ensures))
+    (c .runs2 .ensures ∙ ap (λ (n : Begun). turn (a .i + lacks) n (a .b .queue % 256) 0 false)
+    (c .before .behind2 .ensures))
 
 pub parameters-turn-spec : {M : Type 1} → statement M
 parameters-turn-spec =
