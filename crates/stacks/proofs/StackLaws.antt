@@ -13,38 +13,19 @@ use Rattle.stacks.specs.Stack.{runStack}
 use Rattle.stacks.specs.Inside.{matricesFrom, PairActs, SingleActs}
 use Rattle.stacks.proofs.SingleLaws.{ran-texture as by-texture, ran-projection as by-projection}
 
--- the levels after a command on one of the three stacks
+-- the levels after a command on one of the three stacks: these three, and the error where it failed
+abbrev levelsAfter : Levels → Moved → ℕ → ℕ → ℕ → Levels
+levelsAfter l r pair projection texture =
+    record { mode = l .mode; pair = pair; projection = projection; texture = texture; error = l .error || r .failed }
+
 abbrev pub pairMoved : Levels → Moved → Levels
-pairMoved l r =
-    record {
-      mode = l .mode;
-      pair = r .level;
-      projection = l .projection;
-      texture = l .texture;
-      error = l .error ||
-          r .failed;
-    }
+pairMoved l r = levelsAfter l r (r .level) (l .projection) (l .texture)
 
 abbrev pub projectionMoved : Levels → Moved → Levels
-projectionMoved l r =
-    record {
-      mode = l .mode;
-      pair = l .pair;
-      projection = r .level;
-      texture = l .texture;
-      error = l .error || r .failed;
-    }
+projectionMoved l r = levelsAfter l r (l .pair) (r .level) (l .texture)
 
 abbrev pub textureMoved : Levels → Moved → Levels
-textureMoved l r =
-    record {
-      mode = l .mode;
-      pair = l .pair;
-      projection = l .projection;
-      texture = r .level;
-      error = l .error ||
-          r .failed;
-    }
+textureMoved l r = levelsAfter l r (l .pair) (l .projection) (r .level)
 
 module _ (k : StackCommand) (p : ℕ) (l : Levels) (a b s v projection slot texture tslot : List ℤ) where
   abbrev m : Matrices

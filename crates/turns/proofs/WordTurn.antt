@@ -59,7 +59,7 @@ module _ (b : Begun) (ws old : List ℕ) (i : ℕ) (long : length old ≡ 32) (f
   given : (held : List ℕ) → givenBy c held ≡ command c (take (count c) held) ∷ []
   given = given-some c (λ z. omega (arith, z, known-range c k))
 
-  -- it takes none, or no more than are held
+  -- it lacks none: then it takes none, since fewer are held than a command takes that takes any
   pub word-at-once : {r : Turn} → b .count ≡ count c → i ≤ length ws
       → r ≡ turn i (begun (b .queue / 256) 0 true 0) c 0 false → Turned wordStep ws i b old r old
   word-at-once {r} e w is =

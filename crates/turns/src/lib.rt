@@ -87,7 +87,7 @@ fn hold_words(words: &[u32], i: usize, many: usize, held: &mut [u32; 32], count:
     }
 }
 
-// What is pending behind the command at the front of the queue; `dummy`: it takes no parameter.
+// What is pending behind the command at the front of the queue; `dummy`: that command takes no parameter.
 fn behind(queue: u32, dummy: bool) -> Begun
     ensures { λ r. ⌜ r ≡ record { queue = queue / 256; count = 0; dummy = dummy; port = 0 } ⌝ }
 {
@@ -115,6 +115,7 @@ fn parameters_turn(
     let byte = (b.queue % 256) as u8;
     let count = b.count;
     let lacks = count_in(table, byte) - count;
+    // Fewer are held than a command takes: one that lacks none takes none.
     if lacks == 0 {
         return runs(i, behind(b.queue, true), byte);
     }

@@ -80,8 +80,8 @@ ends-requires-3 : tie.Need-ends-requires-3
 ends-requires-3 c κs = search needs
 
 -- the word has a hole, or not
-holed : (c : tie.After-has-hole) → let a = c .before .before .before .before .before .before .before .before .before
-    .before .before .args in
+holed : (c : tie.After-has-hole)
+    → let a = c .before .before .before .before .before .before .before .before .before .before .before .args in
     c .has-hole .result ≡ hole (commandBytes (getD (a .words .now) (a .i) 0))
 holed c = c .has-hole .ensures ∙ ap hole (c .before .command-bytes-in .ensures)
 
