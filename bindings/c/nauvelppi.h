@@ -196,15 +196,8 @@ typedef struct nauvelppi_call_answer {
 } nauvelppi_call_answer;
 
 /* nauvelppi_word on the caller's own engine, which becomes the engine after the call. */
-static inline nauvelppi_call_answer nauvelppi_word_in_place(nauvelppi_engine *engine, uint32_t word,
-                                                            int32_t *vertices, size_t vertices_length,
-                                                            uint32_t *polygons, size_t polygons_length)
-{
-    nauvelppi_engine_answer r = nauvelppi_word(*engine, word, vertices, vertices_length, polygons, polygons_length);
-    nauvelppi_call_answer answer = {r.number, r.place};
-    *engine = r.engine;
-    return answer;
-}
+nauvelppi_call_answer nauvelppi_word_in_place(nauvelppi_engine *engine, uint32_t word, int32_t *vertices,
+                                              size_t vertices_length, uint32_t *polygons, size_t polygons_length);
 
 #ifdef __cplusplus
 }

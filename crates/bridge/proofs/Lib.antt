@@ -1,2 +1,1 @@
 pub mod BytesLaws
-pub mod EngineLaws

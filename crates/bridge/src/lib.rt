@@ -9,16 +9,12 @@ ghost use Rattle.stream.specs.Command.{write};
 ghost use Rattle.stream.specs.Pack.{pack};
 ghost use Rattle.stream.specs.Unpack.{unpack};
 ghost use Rattle.state.specs.Fresh.{start};
-ghost use Rattle.engine.specs.Call.{wordReply, portReply};
+ghost use Rattle.engine.specs.Call.{machineOf, replyOf, GivenBack, wordReply, portReply};
+ghost use Rattle.bridge.specs.InPlace.{inPlace};
 ghost use Rattle.bridge.specs.Bytes.{onAllBytes, StoresBytes};
-ghost use Rattle.bridge.specs.Engine.{recordAnswerOf, notSound, Called};
 use engine::port_write;
 use engine::word;
 use packer::pack_bytes;
-use records::EngineRecord;
-use records::engine_of;
-use records::is_list;
-use records::record_of;
 use state::Answer;
 use state::Engine;
 use stream::OutputAnswer;
@@ -76,77 +72,69 @@ pub extern "C" fn nauvelppi_unpack(list: &[u8], output: &mut [u8]) -> OutputAnsw
     answer
 }
 
-// What a call that gives an engine answers: 0, or the number that it refuses with; a place; the engine's record.
-#[repr(C)]
-pub struct RecordAnswer {
-    pub number: u32,
-    pub place: u32,
-    pub engine: EngineRecord,
-}
-
-// The answer with the record that stands for its engine.
-fn record_answer(a: Answer) -> RecordAnswer
-    ensures { λ r. ⌜ r ≡ recordAnswerOf a ⌝ }
-{
-    let e = a.engine;
-    RecordAnswer {
-        number: a.number,
-        place: a.place,
-        engine: record_of(e),
-    }
-}
-
-// Number 1, and the record that was given.
-fn not_sound(e: EngineRecord) -> RecordAnswer
-    ensures { λ r. ⌜ r ≡ notSound e ⌝ }
-{
-    RecordAnswer {
-        number: 1,
-        place: 0,
-        engine: e,
-    }
-}
-
 // The fresh engine with these rooms: 1 to 6,144 vertices and 1 to 2,048 polygons.
 #[no_mangle]
-pub extern "C" fn nauvelppi_start(vertices: usize, polygons: usize) -> RecordAnswer
-    ensures { λ r. ⌜ r ≡ recordAnswerOf (start vertices polygons) ⌝ }
+pub extern "C" fn nauvelppi_start(vertices: usize, polygons: usize) -> Answer
+    ensures { λ r. ⌜ r ≡ start vertices polygons ⌝ }
 {
-    record_answer(Engine::start(vertices, polygons))
+    Engine::start(vertices, polygons)
 }
 
-// One packed word. Refused with 1, 2, 4 or 3, in this order, as `engine::word`; with 1 also where the list's number
-// stands for none. A refused call hands back the record that it was given and leaves both buffers as they were.
+// One packed word, as `engine::word`.
 #[no_mangle]
 pub extern "C" fn nauvelppi_word(
-    e: EngineRecord,
+    e: Engine,
     w: u32,
     vertices: &mut [i32],
     polygons: &mut [u32],
-) -> RecordAnswer
-    ensures { λ r. ⌜ Called wordReply e w r (now (vertices .entry)) (now (polygons .entry))
-        (now (vertices .exit)) (now (polygons .exit)) ⌝ }
+) -> Answer
+    ensures { λ r. ⌜ replyOf r (now (vertices .exit)) (now (polygons .exit))
+        ≡ wordReply (machineOf e (now (vertices .entry)) (now (polygons .entry))) w ⌝ }
+    ensures { λ r. ⌜ GivenBack e r ⌝ }
 {
-    if !is_list(e.geometry.waiting.list) {
-        return not_sound(e);
-    }
-    record_answer(word(engine_of(e), w, &mut *vertices, &mut *polygons))
+    word(e, w, &mut *vertices, &mut *polygons)
 }
 
-// One port write. Refused with 1, 2, 5, 4 or 6, in this order, as `engine::port_write`, and else as `nauvelppi_word`.
+// One port write, as `engine::port_write`.
 #[no_mangle]
 pub extern "C" fn nauvelppi_port_write(
-    e: EngineRecord,
+    e: Engine,
     address: u32,
     value: u32,
     vertices: &mut [i32],
     polygons: &mut [u32],
-) -> RecordAnswer
-    ensures { λ r. ⌜ Called portReply e (write address value) r (now (vertices .entry)) (now (polygons .entry))
-        (now (vertices .exit)) (now (polygons .exit)) ⌝ }
+) -> Answer
+    ensures { λ r. ⌜ replyOf r (now (vertices .exit)) (now (polygons .exit))
+        ≡ portReply (machineOf e (now (vertices .entry)) (now (polygons .entry))) (write address value) ⌝ }
+    ensures { λ r. ⌜ GivenBack e r ⌝ }
 {
-    if !is_list(e.geometry.waiting.list) {
-        return not_sound(e);
+    port_write(e, address, value, &mut *vertices, &mut *polygons)
+}
+
+// What the entry that updates the caller's own record answers: 0, or the number that it refuses with; a place.
+#[repr(C)]
+pub struct CallAnswer {
+    pub number: u32,
+    pub place: u32,
+}
+
+// One packed word on the caller's own record, which becomes the engine that `word` answers. Refused as `word` is, and
+// then the record and both buffers stay as they were.
+#[no_mangle]
+pub extern "C" fn nauvelppi_word_in_place(
+    engine: &mut Engine,
+    w: u32,
+    vertices: &mut [i32],
+    polygons: &mut [u32],
+) -> CallAnswer
+    ensures { λ r. ⌜ replyOf (inPlace r (now (engine .exit))) (now (vertices .exit)) (now (polygons .exit))
+        ≡ wordReply (machineOf (now (engine .entry)) (now (vertices .entry)) (now (polygons .entry))) w ⌝ }
+    ensures { λ r. ⌜ GivenBack (now (engine .entry)) (inPlace r (now (engine .exit))) ⌝ }
+{
+    let r = word(*engine, w, &mut *vertices, &mut *polygons);
+    *engine = r.engine;
+    CallAnswer {
+        number: r.number,
+        place: r.place,
     }
-    record_answer(port_write(engine_of(e), address, value, &mut *vertices, &mut *polygons))
 }

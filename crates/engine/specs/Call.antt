@@ -12,7 +12,6 @@ use Rattle.state.specs.declared.Answer.{Answer}
 use Rattle.state.specs.Sound.{soundCore, pendingOf}
 use Rattle.polygons.specs.Buffers.{Buffered, buffered}
 use Rattle.execute.specs.Execute.{buffersLong, execute}
-use Rattle.engine.specs.declared.CallAnswer.{CallAnswer}
 
 -- a command on the core and the caller's buffers
 abbrev pub exec : Command → Buffered Core → Buffered Core
@@ -42,7 +41,3 @@ wordReply = wordCall exec coreSound buffersLong
 -- the port write call: "1, 2, 5, 4, 6"
 abbrev pub portReply : Machine (Buffered Core) → Write → Reply (Buffered Core)
 portReply = portCall exec coreSound buffersLong
-
--- what the entry on the caller's own record answers, with the record after the call: the answer of the call by value
-abbrev pub inPlace : CallAnswer → Engine → Answer
-inPlace r engine = record { number = r .number; place = r .place; engine = engine }

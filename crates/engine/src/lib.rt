@@ -11,7 +11,7 @@ ghost use Rattle.state.specs.Sound.{soundCore, pendingOf, soundStream};
 ghost use Rattle.polygons.specs.Buffers.{buffered};
 ghost use Rattle.execute.specs.Execute.{buffersLong};
 ghost use Rattle.steps.specs.Outcome.{commandsWith, stepOf};
-ghost use Rattle.engine.specs.Call.{exec, machineOf, replyOf, GivenBack, wordReply, portReply, inPlace};
+ghost use Rattle.engine.specs.Call.{exec, machineOf, replyOf, GivenBack, wordReply, portReply};
 ghost use Rattle.engine.specs.Inside.{firstNumber, inputStep, inputReply};
 use commands::parameter_table;
 use execute::Operation;
@@ -178,30 +178,4 @@ pub fn port_write(
         &mut *vertices,
         &mut *polygons,
     )
-}
-
-// What the entry that updates the caller's own record answers: 0, or the number that it refuses with; a place.
-pub struct CallAnswer {
-    pub number: u32,
-    pub place: u32,
-}
-
-// One packed word on the caller's own record, which becomes the engine that `word` answers. Refused as `word` is, and
-// then the record and both buffers stay as they were.
-pub fn word_in_place(
-    engine: &mut Engine,
-    w: u32,
-    vertices: &mut [i32],
-    polygons: &mut [u32],
-) -> CallAnswer
-    ensures { λ r. ⌜ replyOf (inPlace r (now (engine .exit))) (now (vertices .exit)) (now (polygons .exit))
-        ≡ wordReply (machineOf (now (engine .entry)) (now (vertices .entry)) (now (polygons .entry))) w ⌝ }
-    ensures { λ r. ⌜ GivenBack (now (engine .entry)) (inPlace r (now (engine .exit))) ⌝ }
-{
-    let r = word(*engine, w, &mut *vertices, &mut *polygons);
-    *engine = r.engine;
-    CallAnswer {
-        number: r.number,
-        place: r.place,
-    }
 }

@@ -8,6 +8,7 @@ use lib.ListN.{getD, take, drop}
 use Rattle.listing.specs.Text.{ascii, decimal, hex8, wordLine, linesOf, numberLine}
 use Rattle.stream.specs.Pending.{Pending, isPending}
 use Rattle.stream.specs.Call.{Machine}
+use Rattle.state.specs.List.{listOf}
 use Rattle.state.specs.declared.OpenList.{OpenList}
 use Rattle.state.specs.declared.OpenList.the-variants.{Closed, Triangles, Quads, TriangleStrip, QuadStrip}
 use Rattle.state.specs.declared.Coordinates.{Coordinates}
@@ -59,7 +60,7 @@ geometryText g =
     ++ numberLine (ascii "colour ") (g .colour)
     ++ attributesLine (g .given) (g .attributes)
     ++ positionLine (g .position)
-    ++ listLine (g .waiting .list)
+    ++ listLine (listOf (g .waiting .list))
 
 -- 1 while a command is pending
 unfoldable pub pendingLine : Pending → List ℕ

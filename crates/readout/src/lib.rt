@@ -34,6 +34,7 @@ use state::Transform;
 use state::VERTEX_WIDTH;
 use state::VertexRecord;
 use state::Waiting;
+use state::list_of;
 use steps::is_packed_pending;
 
 // Every function here stores its text in the buffer from `at` on and answers where the next goes. The public ones are
@@ -175,7 +176,7 @@ fn put_geometry(text: &mut [u8], at: usize, g: Geometry) -> usize
     ensures { λ r. ⌜ r ≤ at + 137 ⌝ }
 {
     let waiting = g.waiting;
-    let list = waiting.list;
+    let list = list_of(waiting.list);
     let position = g.position;
     let colour = put_flag_line(text, at, b"overflow ", g.overflow);
     let attributes = put_number_line(text, colour, b"colour ", g.colour);

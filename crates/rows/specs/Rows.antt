@@ -20,6 +20,7 @@ use Rattle.stream.specs.Pack.{groupWords, packedWords, packedLength, packComman
 use Rattle.stream.specs.Unpack.{writesTo, commandWrites, logOf, commandsLog, unpackFrom, unpack}
 use Rattle.stream.specs.Call.{Machine, Reply, machine, reply, run, callBy}
 use Rattle.stream.specs.Demand3.{after}
+use Rattle.state.specs.List.{listOf, numberOf}
 use Rattle.state.specs.declared.OpenList.the-variants.{TriangleStrip}
 use Rattle.state.specs.declared.Geometry.{Geometry}
 use Rattle.state.specs.declared.Core.{Core}
@@ -249,7 +250,7 @@ geometryRows =
     (pos 10 ∷ pos 20 ∷ pos 30 ∷ pos 30 ∷ pos 20 ∷ pos 40 ∷ [])
     ∷ row (storedX 4 0 (runs (fourVertices 3) (startWith 4 1))) (pos 10 ∷ pos 20 ∷ pos 40 ∷ pos 30 ∷ [])
     -- of "a dropped one still counts for k": with room for one triangle of a strip, the next k after two is even
-    ∷ row (geometryOf (runs (fourVertices 2) (startWith 3 1)) .waiting .list) (TriangleStrip false)
+    ∷ row (geometryOf (runs (fourVertices 2) (startWith 3 1)) .waiting .list) (numberOf (TriangleStrip false))
     -- of a closed list: a vertex sets the position, and nothing else
     ∷ row (geometryOf (runs (vertex 10 ∷ []) (startWith 3 1)))
     (withPosition (geometryOf (startWith 3 1)) (coordinates (pos 10) (pos 0) (pos 0)))
@@ -364,7 +365,7 @@ unfolding commandRows lookup known
 command-table = (refl, (refl, tt))
 
 calls : AllHold callRows
-unfolding commandRows lookup known count port counted commandAt commandBytes hole
+unfolding listOf commandRows lookup known count port counted commandAt commandBytes hole
     commandsOf soundPending takesNone commandWord parameterWord wordStep heldWith portParameter portStep callBy
     lowBits asSigned unit freshTransform freshGeometry fresh withRooms start soundTransform coloured soundWaiting
     soundGeometry soundCore pendingOf longEnough stored pushPair runStack onPair act runMatrix
@@ -404,7 +405,7 @@ unfolding lowBits asSigned unit freshTransform fresh runMatrix stored loaded pus
 stacks = (refl, (refl, (refl, (refl, (refl, (refl, (refl, (refl, (refl, tt)))))))))
 
 geometries : AllHold geometryRows
-unfolding floorBits lowBits asSigned entry rowBy mul unit freshTransform freshGeometry fresh withRooms start
+unfolding listOf floorBits lowBits asSigned entry rowBy mul unit freshTransform freshGeometry fresh withRooms start
     positionAfter withVertex withPolygon vertexRecord storePolygon joined assembled remaining taken vertexAt
     beginList swapBuffers runGeometry registerCommandOf operationOf runRegisters runOperation execute
 geometries = (

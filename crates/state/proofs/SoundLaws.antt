@@ -16,6 +16,7 @@ use Rattle.state.specs.declared.Core.{Core}
 use Rattle.state.specs.declared.Engine.{Engine}
 use Rattle.state.specs.declared.Answer.{Answer}
 use Rattle.state.specs.With.{withPair, withProjection, withTexture, withError, withCore, withRooms, answered}
+use Rattle.state.specs.List.{listOf}
 use Rattle.state.specs.Mode.{single, withSingle}
 use Rattle.state.specs.Fresh.{freshTransform, freshGeometry, freshStream, fresh, roomsAllowed, start}
 use Rattle.state.specs.Sound.{soundTransform, soundWaiting, soundGeometry, soundCore, pendingOf, soundStream}
@@ -110,13 +111,13 @@ core-kept e c h k =
 -- ---- fresh and start
 
 pub fresh-sound : sound fresh ≡ true
-unfolding sound soundCore soundTransform soundGeometry soundWaiting soundStream pendingOf soundPending
+unfolding sound soundCore soundTransform soundGeometry soundWaiting listOf soundStream pendingOf soundPending
     commandsOf commandBytes counted known lookup commandRows freshTransform freshGeometry freshStream fresh
 fresh-sound = refl
 
 rooms-geometry : (v p : ℕ) → roomsAllowed v p ≡ true
     → soundGeometry (withRooms fresh v p .core .registers .geometry) ≡ true
-unfolding withRooms fresh freshGeometry soundGeometry soundWaiting
+unfolding withRooms fresh freshGeometry soundGeometry soundWaiting listOf
 rooms-geometry v p h = simp (h, le-leb 0 v (omega arith), le-leb 0 p (omega arith))
 
 rooms-kept : (v p : ℕ) → roomsAllowed v p ≡ true → sound (withRooms fresh v p) ≡ true

@@ -15,6 +15,7 @@ use Rattle.state.specs.declared.Geometry.{Geometry}
 use Rattle.state.specs.declared.Stream.{Stream}
 use Rattle.state.specs.declared.Engine.{Engine}
 use Rattle.state.specs.declared.Answer.{Answer}
+use Rattle.state.specs.List.{numberOf}
 use Rattle.state.specs.With.{withRooms, answered}
 
 -- n zeros
@@ -51,7 +52,7 @@ freshGeometry =
       given = 0;
       attributes = 0;
       position = record { x = pos 0; y = pos 0; z = pos 0 };
-      waiting = record { list = Closed; first = noVertex; second = noVertex; third = noVertex; count = 0 };
+      waiting = record { list = numberOf Closed; first = noVertex; second = noVertex; third = noVertex; count = 0 };
       used = record { vertices = 0; polygons = 0 };
       rooms = record { vertices = 1; polygons = 1 };
       overflow = false;

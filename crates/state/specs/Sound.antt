@@ -16,6 +16,7 @@ use Rattle.state.specs.declared.Geometry.{Geometry}
 use Rattle.state.specs.declared.Core.{Core}
 use Rattle.state.specs.declared.Stream.{Stream}
 use Rattle.state.specs.declared.Engine.{Engine}
+use Rattle.state.specs.List.{isList, listOf}
 use Rattle.state.specs.Fresh.{roomsAllowed}
 
 -- "every number in the range given here": modes 0 to 3, "one level S from 0 to 31", "level 0 or 1"
@@ -53,7 +54,8 @@ fewWait list n = isClosed list && eqb n 0 || ltb n (needed list)
 -- and each that waits has a colour
 unfoldable pub soundWaiting : Waiting → Bool
 soundWaiting w =
-    fewWait (w .list) (w .count)
+    isList (w .list)
+    && fewWait (listOf (w .list)) (w .count)
     && (leb (w .count) 0 || coloured (w .first))
     && (leb (w .count) 1 || coloured (w .second))
     && (leb (w .count) 2 || coloured (w .third))

@@ -5,6 +5,7 @@ ghost use mathlib.Core.Path.{_≡_};
 ghost use mathlib.Core.Bool.{cond};
 ghost use lib.Dec.{eqb};
 ghost use Rattle.commands.specs.Commands.{parameterTable};
+ghost use Rattle.state.specs.List.{isList, listOf, numberOf};
 ghost use Rattle.state.specs.With.{withRooms, answered};
 ghost use Rattle.state.specs.Mode.{usesPair};
 ghost use Rattle.state.specs.Fresh.{freshTransform, freshGeometry, freshStream, fresh, start};
@@ -75,10 +76,11 @@ pub enum OpenList {
     QuadStrip,
 }
 
-// The open list, and the vertices that wait for its next polygon: the first `count` of three. Those past the count are
-// free: nothing reads them.
+// The open list by its number (`list_of`), and the vertices that wait for its next polygon: the first `count` of three.
+// Those past the count are free: nothing reads them.
+#[repr(C)]
 pub struct Waiting {
-    pub list: OpenList,
+    pub list: u32,
     pub first: VertexRecord,
     pub second: VertexRecord,
     pub third: VertexRecord,
@@ -94,6 +96,7 @@ pub struct Counts {
 
 // `given` are the attributes last given by 29h, `attributes` those in force; `used` says how many records the caller's
 // buffers hold, `rooms` (document 01's word for the capacities) how many they may hold.
+#[repr(C)]
 pub struct Geometry {
     pub given: u32,
     pub attributes: u32,
@@ -106,12 +109,14 @@ pub struct Geometry {
 }
 
 // All that a command can touch but the two long stacks.
+#[repr(C)]
 pub struct Registers {
     pub transform: Transform,
     pub geometry: Geometry,
 }
 
 // What the two sides of demand 3 are compared in, and the rooms.
+#[repr(C)]
 pub struct Core {
     pub registers: Registers,
     pub stacks: Stacks,
@@ -130,12 +135,14 @@ pub struct Stream {
     pub port: u8,
 }
 
+#[repr(C)]
 pub struct Engine {
     pub core: Core,
     pub stream: Stream,
 }
 
 // What a call that gives an engine answers: 0, or the number that it refuses with; a place; the engine.
+#[repr(C)]
 pub struct Answer {
     pub number: u32,
     pub place: u32,
@@ -171,7 +178,7 @@ fn fresh_geometry() -> Geometry
 {
     let position = Coordinates { x: 0, y: 0, z: 0 };
     let waiting = Waiting {
-        list: OpenList::Closed,
+        list: 0,
         first: [0; VERTEX_WIDTH],
         second: [0; VERTEX_WIDTH],
         third: [0; VERTEX_WIDTH],
@@ -303,6 +310,40 @@ fn is_sound_transform(t: Transform) -> bool
     (t.mode <= 3) & (t.pair.level <= 31) & (t.projection.level <= 1) & (t.texture.level <= 1)
 }
 
+// Whether the number stands for a list.
+fn is_list(number: u32) -> bool
+    ensures { λ r. ⌜ r ≡ isList number ⌝ }
+{
+    number < 6
+}
+
+// The list of a number: 0 closed, 1 triangles, 2 quads, 3 a triangle strip whose next k is even, 4 one whose next k is
+// odd, 5 a quad strip; closed for a number that stands for none, and then the record is not sound.
+pub fn list_of(number: u32) -> OpenList
+    ensures { λ r. ⌜ r ≡ listOf number ⌝ }
+{
+    match number {
+        1 => OpenList::Triangles,
+        2 => OpenList::Quads,
+        3 => OpenList::TriangleStrip(false),
+        4 => OpenList::TriangleStrip(true),
+        5 => OpenList::QuadStrip,
+        _ => OpenList::Closed,
+    }
+}
+
+pub fn number_of(list: OpenList) -> u32
+    ensures { λ r. ⌜ r ≡ numberOf list ⌝ }
+{
+    match list {
+        OpenList::Closed => 0,
+        OpenList::Triangles => 1,
+        OpenList::Quads => 2,
+        OpenList::TriangleStrip(odd) => { if odd { 4 } else { 3 } }
+        OpenList::QuadStrip => 5,
+    }
+}
+
 // No list is open.
 pub fn is_closed(list: OpenList) -> bool
     ensures { λ r. ⌜ r ≡ isClosed list ⌝ }
@@ -340,12 +381,14 @@ fn is_coloured(v: VertexRecord) -> bool
 fn is_sound_waiting(w: Waiting) -> bool
     ensures { λ r. ⌜ r ≡ soundWaiting w ⌝ }
 {
-    let list = w.list;
+    let number = w.list;
+    let list = list_of(number);
     let n = w.count;
     let first = w.first;
     let second = w.second;
     let third = w.third;
-    ((is_closed(list) & (n == 0)) | (n < needed_by(list)))
+    is_list(number)
+        & ((is_closed(list) & (n == 0)) | (n < needed_by(list)))
         & ((n <= 0) | is_coloured(first))
         & ((n <= 1) | is_coloured(second))
         & ((n <= 2) | is_coloured(third))

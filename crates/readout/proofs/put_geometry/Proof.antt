@@ -9,6 +9,9 @@ use borrow.Author.Needs.{needs}
 use Rattle.readout.proofs.put_geometry.Statement.{statement}
 use Rattle.readout.proofs.put_geometry.Tie as tie
 
+list-of-requires : tie.Need-list-of-requires
+list-of-requires c κs = search needs
+
 slice-aggregate-put-flag-line : tie.Need-slice-aggregate-put-flag-line
 slice-aggregate-put-flag-line c = search needs
 
@@ -74,7 +77,8 @@ returns c =
     let number = attributes .before .before .before .before in
     let flag = number .before .before .before .before .before in (
       puts-both (puts-both (puts-both (puts-both (flag .put-flag-line .ensures) (number .put-number-line .ensures))
-          (attributes .put-attributes .ensures)) (position .put-position .ensures)) (list .put-list .ensures),
+          (attributes .put-attributes .ensures)) (position .put-position .ensures))
+          (rw (flag .before .before .before .before .list-of .ensures) at (list .put-list .ensures)),
       omega (
         arith,
         list-end _ (list .put-list .ensures),
@@ -89,6 +93,7 @@ pub put-geometry-spec : {M : Type 1} → statement M
 put-geometry-spec =
     tie.close
     (tie.spec
+    list-of-requires
     slice-aggregate-put-flag-line
     put-flag-line-requires
     slice-aggregate-put-number-line

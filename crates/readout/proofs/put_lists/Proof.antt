@@ -2,6 +2,7 @@
 use Prim.Native.Nat.{_<_}
 use native.Mathlib.Omega.{arith}
 use Rattle.listing.proofs.PutLaws.{puts-both}
+use Rattle.state.specs.List.{listOf}
 use Rattle.state.proofs.GeometryLaws.{at-most-3, geometry-ranges}
 use Rattle.polygons.specs.Buffers.{buffered}
 use Rattle.polygons.specs.Bounds.{Bounds}
@@ -21,7 +22,7 @@ put-waiting-requires : tie.Need-put-waiting-requires
 put-waiting-requires c κs =
     let start = c .before .before .before .before .before in
     let w = start .args .g .waiting in
-    let few : w .count < 4 = at-most-3 (w .list) (w .count) (geometry-ranges (start .args .g)
+    let few : w .count < 4 = at-most-3 (listOf (w .list)) (w .count) (geometry-ranges (start .args .g)
     (start .pre .0) .waiting .few) in
     (omega (arith, few), omega (arith, start .pre .1 .1))
 

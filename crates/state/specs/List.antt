@@ -1,11 +1,11 @@
--- The open list by a number, for a record without enums. Assumes nothing.
+-- The open list by its number, as the record has it: an exported function takes no enum. Assumes nothing.
 use mathlib.Core.Bool.{Bool, true, false}
 use mathlib.Core.List.{List, [], _∷_}
 use Prim.Native.Nat.{ℕ}
 use lib.Dec.{ltb}
 use lib.ListN.{length, getD}
 use Rattle.state.specs.declared.OpenList.{OpenList}
 use Rattle.state.specs.declared.OpenList.the-variants.{Closed, Triangles, Quads, TriangleStrip, QuadStrip}
 
 -- Every list, in the order of its number, from 0 on. Document 01, Vertices and polygons: "With the open list the
 -- engine keeps whether a triangle strip's next k is odd; for every other kind, and when closed, this reads even."

@@ -1,4 +1,4 @@
--- `engine::word_in_place` meets its contract: a walk of its MIR, by hand. The borrow of the record is opened, the
+-- `bridge::nauvelppi_word_in_place` meets its contract: a walk of its MIR, by hand. The borrow of the record is opened, the
 -- record is copied and passed to `word` with the two buffers, the engine that `word` answers is stored behind the
 -- borrow, and the borrow is closed at it. All that the proof knows of `word` is that it meets its contract. The
 -- buffers' borrows are given up to it at their own lifetimes, shares and names.
@@ -53,23 +53,24 @@ use denote.Exit.{yes}
 use denote.Triple.Clauses.{ensured, lasts}
 use Rattle.state.specs.declared.Engine.{Engine}
 use Rattle.state.specs.declared.Answer.{Answer}
-use Rattle.engine.specs.declared.CallAnswer.{CallAnswer}
-use Rattle.engine.specs.Call.{machineOf, replyOf, GivenBack, wordReply, inPlace}
+use Rattle.bridge.specs.declared.CallAnswer.{CallAnswer}
+use Rattle.engine.specs.Call.{machineOf, replyOf, GivenBack, wordReply}
+use Rattle.bridge.specs.InPlace.{inPlace}
 use Rattle.state.proofs.Engine as T
 use Rattle.state.proofs.Engine.Laws as T′
 use Rattle.state.proofs.Answer as S
 use Rattle.state.proofs.Answer.Laws as S′
-use Rattle.engine.proofs.CallAnswer as N
-use Rattle.engine.proofs.CallAnswer.Laws as N′
+use Rattle.bridge.proofs.CallAnswer as N
+use Rattle.bridge.proofs.CallAnswer.Laws as N′
 use Rattle.engine.proofs.word as word
 use Rattle.engine.proofs.word.Symbol as word-def
 use Rattle.engine.proofs.word.Symbol.{name as #word}
 use Rattle.engine.proofs.word.Met as word-thm
-use Rattle.engine.proofs.word_in_place.Key.{name as #word-in-place}
-use Rattle.engine.proofs.word_in_place as in-place
-use Rattle.engine.proofs.word_in_place.Statement as stated
-use Rattle.engine.proofs.word_in_place.Code as code
-use Rattle.engine.proofs.word_in_place.Code.Mir as Mir
+use Rattle.bridge.proofs.nauvelppi_word_in_place.Key.{name as #word-in-place}
+use Rattle.bridge.proofs.nauvelppi_word_in_place as in-place
+use Rattle.bridge.proofs.nauvelppi_word_in_place.Statement as stated
+use Rattle.bridge.proofs.nauvelppi_word_in_place.Code as code
+use Rattle.bridge.proofs.nauvelppi_word_in_place.Code.Mir as Mir
 
 abbrev stayed : Stays (in-place.ended .signature .params) (in-place.ended .kept)
 stayed = (
@@ -350,9 +351,9 @@ in-place-meets 𝓤 H A W at-mem run 𝓣 known = walk-meets 𝓤 H A in-place.e
     (WpFn 𝓤 H (𝓣 .C) (𝓣 .Λ) code.function) (WpFn-mono 𝓤 H (W .laws) 𝓣 code.function)
     (in-place-walks 𝓤 H A W at-mem run (𝓣 .C) (𝓣 .Λ) (fmOf 𝓤 H (W .laws) 𝓣) known)
 
-pub word-in-place-spec : {M : Type 1} → stated.statement M
+pub nauvelppi-word-in-place-spec : {M : Type 1} → stated.statement M
 unfolding code.routine tablesOf
-word-in-place-spec 𝓤 H 𝓜 𝓖 𝓡 =
+nauvelppi-word-in-place-spec 𝓤 H 𝓜 𝓖 𝓡 =
     entered 𝓤 H (tripleOf 𝓤 H (𝓖 .A) in-place.signature (in-place.spec 𝓤 H (𝓖 .A) (𝓜 .mem) (𝓡 .run)))
     (tables 𝓤 H 𝓜 𝓡 code.env .C) (tables 𝓤 H 𝓜 𝓡 code.env .Λ) #word-in-place code.function
     (code.unfolded 𝓤 H 𝓜 𝓡)

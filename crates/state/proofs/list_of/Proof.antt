@@ -1,9 +1,9 @@
--- `records::list_of` meets its contract. Assumes nothing.
+-- `state::list_of` meets its contract. Assumes nothing.
 use mathlib.Core.Path.{sym}
-use Rattle.records.specs.List.{listOf}
-use Rattle.records.proofs.RecordLaws.{closed-else}
-use Rattle.records.proofs.list_of.Statement.{statement}
-use Rattle.records.proofs.list_of.Tie as tie
+use Rattle.state.specs.List.{listOf}
+use Rattle.state.proofs.ListLaws.{closed-else}
+use Rattle.state.proofs.list_of.Statement.{statement}
+use Rattle.state.proofs.list_of.Tie as tie
 
 returns : tie.Need-returns
 unfolding listOf
