@@ -9,7 +9,7 @@ ghost use Rattle.stream.specs.Command.{write};
 ghost use Rattle.stream.specs.Pack.{pack};
 ghost use Rattle.stream.specs.Unpack.{unpack};
 ghost use Rattle.state.specs.Fresh.{start};
-ghost use Rattle.engine.specs.Call.{machineOf, replyOf, GivenBack, wordReply, portReply};
+ghost use Rattle.execute.specs.Call.{machineOf, replyOf, GivenBack, wordReply, portReply};
 ghost use Rattle.bridge.specs.InPlace.{inPlace};
 ghost use Rattle.bridge.specs.Bytes.{onAllBytes, StoresBytes};
 use engine::port_write;

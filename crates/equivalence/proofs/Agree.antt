@@ -18,8 +18,8 @@ use Rattle.state.specs.Sound.{soundStream}
 use Rattle.polygons.specs.Buffers.{Buffered, buffered}
 use Rattle.execute.specs.Execute.{buffersLong}
 use Rattle.execute.proofs.Keeps.{execute-kept, long-enough-kept}
-use Rattle.engine.specs.Call.{exec, coreSound, machineOf}
-use Rattle.engine.proofs.Calls.{sound-core}
+use Rattle.execute.specs.Call.{exec, coreSound, machineOf}
+use Rattle.execute.proofs.Calls.{sound-core}
 use Rattle.equivalence.specs.EqualEnds.{transformOf, stacksOf, geometryOf, waitingOf, EqualEnds}
 use Rattle.equivalence.specs.Demand3.{EngineDemand3Holds}
 

@@ -13,7 +13,7 @@ use Rattle.stream.proofs.OutputLaws.{stored-words}
 use Rattle.state.specs.declared.Core.{Core}
 use Rattle.state.specs.declared.Engine.{Engine}
 use Rattle.polygons.specs.Buffers.{Buffered}
-use Rattle.engine.specs.Call.{machineOf, wordReply, portReply}
+use Rattle.execute.specs.Call.{machineOf, wordReply, portReply}
 use Rattle.feeding.specs.declared.Fed.{Fed as FedAnswer}
 use Rattle.feeding.specs.Feed.{Fed, fed, feed, fedOf}
 use Rattle.feeding.proofs.FeedLaws.{feed-all}

@@ -10,7 +10,7 @@ use Rattle.stream.specs.Demand3.{after, AllTaken}
 use Rattle.stream.proofs.OutputLaws.{stored-words}
 use Rattle.state.specs.declared.Core.{Core}
 use Rattle.polygons.specs.Buffers.{Buffered}
-use Rattle.engine.specs.Call.{wordReply}
+use Rattle.execute.specs.Call.{wordReply}
 use Rattle.equivalence.specs.Calls.{Lent, machineAt, Calls, none, one, AllZero, BothSides, CallsAgree}
 use Rattle.equivalence.proofs.Agree.{engine-demand3}
 

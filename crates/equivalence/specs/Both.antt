@@ -6,7 +6,7 @@ use lib.ListN.{length, take}
 use Rattle.stream.specs.Read.{writes}
 use Rattle.stream.specs.Output.{Stores}
 use Rattle.stream.specs.Pack.{pack}
-use Rattle.engine.specs.Call.{wordReply, portReply}
+use Rattle.execute.specs.Call.{wordReply, portReply}
 use Rattle.feeding.specs.declared.Fed.{Fed as FedAnswer}
 use Rattle.feeding.specs.Feed.{feed, fedOf}
 use Rattle.equivalence.specs.declared.BothEnds.{BothEnds}

@@ -14,7 +14,7 @@ use Rattle.state.specs.declared.Core.{Core}
 use Rattle.state.specs.declared.Engine.{Engine}
 use Rattle.state.specs.declared.Answer.{Answer}
 use Rattle.polygons.specs.Buffers.{Buffered}
-use Rattle.engine.specs.Call.{machineOf, replyOf, wordReply, portReply}
+use Rattle.execute.specs.Call.{machineOf, replyOf, wordReply, portReply}
 use Rattle.equivalence.specs.EqualEnds.{SidesAgree}
 use Rattle.equivalence.specs.Demand3.{Start}
 

@@ -14,7 +14,7 @@ use Rattle.state.specs.declared.Engine.{Engine}
 use Rattle.state.specs.Sound.{pendingOf, sound}
 use Rattle.polygons.specs.Buffers.{buffered}
 use Rattle.execute.specs.Execute.{buffersLong}
-use Rattle.engine.specs.Call.{machineOf, wordReply, portReply}
+use Rattle.execute.specs.Call.{machineOf, wordReply, portReply}
 use Rattle.equivalence.specs.EqualEnds.{SidesAgree}
 
 -- "At the start both sides have equal engines, sound and with no command begun, and equal lent lists, on which number 2

@@ -20,9 +20,9 @@ use Rattle.turns.specs.declared.Begun.{Begun}
 use Rattle.turns.specs.declared.Turn.{Turn}
 use Rattle.turns.specs.Inside.{AllTaken, no-item, one-item}
 use Rattle.turns.specs.Inside.{dueOf, pendingDue, givenBy, Turned}
-use Rattle.engine.specs.Call.{exec, coreSound}
-use Rattle.engine.specs.Inside.{firstNumber}
-use Rattle.engine.proofs.Keeps.{Kept}
+use Rattle.execute.specs.Call.{exec, coreSound}
+use Rattle.execute.specs.Inside.{firstNumber}
+use Rattle.execute.proofs.CallKeeps.{Kept}
 use Rattle.feeding.proofs.FeedLaws.{one-fed}
 use Rattle.feeding.proofs.LoopLaws.{Between, usable-call, still-long}
 

@@ -1,7 +1,7 @@
 // A whole list or log, or a piece of one, fed in one call: an entry for the comparison and the benchmark of
 // `checks/rust` alone. The product has no such entry.
 ghost use mathlib.Core.Path.{_≡_};
-ghost use Rattle.engine.specs.Call.{machineOf};
+ghost use Rattle.execute.specs.Call.{machineOf};
 ghost use Rattle.feeding.specs.Feed.{feedAs, fedOf};
 use feeding::Fed;
 use feeding::feed_as;

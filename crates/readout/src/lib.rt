@@ -34,8 +34,8 @@ use state::Transform;
 use state::VERTEX_WIDTH;
 use state::VertexRecord;
 use state::Waiting;
+use state::is_packed_pending;
 use state::list_of;
-use steps::is_packed_pending;
 
 // Every function here stores its text in the buffer from `at` on and answers where the next goes. The public ones are
 // for the crates above, which have a buffer that is long enough.

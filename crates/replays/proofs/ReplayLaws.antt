@@ -22,8 +22,8 @@ use Rattle.state.specs.Sound.{sound}
 use Rattle.state.proofs.SoundLaws.{sound-parts}
 use Rattle.state.proofs.GeometryLaws.{geometry-ranges, room-limits}
 use Rattle.polygons.specs.Buffers.{Buffered, buffered, longEnough}
-use Rattle.engine.specs.Call.{machineOf, wordReply, portReply}
-use Rattle.engine.proofs.Keeps.{EngineKept}
+use Rattle.execute.specs.Call.{machineOf, wordReply, portReply}
+use Rattle.execute.proofs.CallKeeps.{EngineKept}
 use Rattle.feeding.specs.declared.Fed.{Fed as FedAnswer}
 use Rattle.feeding.specs.Feed.{Fed, feedAs, fedOf}
 use Rattle.feeding.proofs.Keeps.{taken-within, words-kept, writes-kept}

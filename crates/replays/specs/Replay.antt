@@ -11,7 +11,7 @@ use Rattle.words.specs.Words.{wordsOf, over}
 use Rattle.state.specs.declared.Core.{Core}
 use Rattle.state.specs.Fresh.{start}
 use Rattle.polygons.specs.Buffers.{Buffered, buffered}
-use Rattle.engine.specs.Call.{machineOf}
+use Rattle.execute.specs.Call.{machineOf}
 use Rattle.feeding.specs.Feed.{Fed, feedAs}
 use Rattle.listing.specs.Text.{ascii, numberLine, refusedLine}
 use Rattle.readout.specs.Readout.{machineText}

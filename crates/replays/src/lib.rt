@@ -6,7 +6,7 @@ ghost use lib.ListN.{length};
 ghost use Rattle.io.specs.Counts.{Counts as Counted};
 ghost use Rattle.state.specs.Sound.{sound};
 ghost use Rattle.polygons.specs.Buffers.{longEnough};
-ghost use Rattle.engine.specs.Call.{machineOf};
+ghost use Rattle.execute.specs.Call.{machineOf};
 ghost use Rattle.feeding.specs.Feed.{feedAs, fedOf};
 ghost use Rattle.listing.specs.Buffer.{Puts};
 ghost use Rattle.replays.specs.Replay.{isInput, refusalText, fedText, replay, replayAs, Reports};

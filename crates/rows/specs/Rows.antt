@@ -45,7 +45,7 @@ use Rattle.geometry.specs.Vertex.{joined, assembled, remaining, taken, vertexAt
 use Rattle.geometry.specs.Command.{runGeometry}
 use Rattle.execute.specs.Operation.{carried, registerCommandOf, operationOf}
 use Rattle.execute.specs.Execute.{runRegisters, runOperation, execute}
-use Rattle.engine.specs.Call.{exec, wordReply, portReply}
+use Rattle.execute.specs.Call.{exec, wordReply, portReply}
 use Rattle.listing.specs.Text.{ascii, decimal, hex8, writeLine, portsText, wordLine, wordsText, refusedLine}
 use Rattle.reports.specs.Unpack.{logReport, unpackReport}
 use Rattle.reports.specs.Pack.{wordsReport, packReport}

@@ -7,7 +7,6 @@ use Prim.Native.Nat.{ℕ}
 use lib.Dec.{eqb}
 use lib.IntN.{ℤ}
 use Rattle.state.specs.declared.Single.{Single}
-use Rattle.state.specs.declared.Stacks.{Stacks}
 use Rattle.state.specs.declared.Transform.{Transform}
 use Rattle.stacks.specs.declared.Levels.{Levels}
 use Rattle.stacks.specs.declared.Matrices.{Matrices}
@@ -20,9 +19,6 @@ abbrev pub moved : ℕ → Bool → Moved
 moved level failed = record { level = level; failed = failed }
 
 -- ---- the matrices of their parts
-
-abbrev pub withStacks : Transform → Stacks → Matrices
-withStacks t s = record { transform = t; stacks = s }
 
 abbrev pub levelsOf : Transform → Levels
 levelsOf t =

@@ -1,20 +1,21 @@
 // The engine's record, by value: the core (all that demand 3 compares, and the rooms) and the command stream. Here are
-// the fresh engine, the start, and the test that a record is sound. The structs marked `#[repr(C)]` are parts of the
-// record for C too (`records`).
+// the fresh engine, the start, and the test that a record is sound. C has the same record.
 ghost use mathlib.Core.Path.{_≡_};
-ghost use mathlib.Core.Bool.{cond};
+ghost use mathlib.Core.Bool.{true, cond};
 ghost use lib.Dec.{eqb};
 ghost use Rattle.commands.specs.Commands.{parameterTable};
+ghost use Rattle.stream.specs.Pending.{packedPending};
 ghost use Rattle.state.specs.List.{isList, listOf, numberOf};
 ghost use Rattle.state.specs.With.{withRooms, answered};
 ghost use Rattle.state.specs.Mode.{usesPair};
 ghost use Rattle.state.specs.Fresh.{freshTransform, freshGeometry, freshStream, fresh, start};
 ghost use Rattle.state.specs.Fresh.{roomAllowed, roomsAllowed};
 ghost use Rattle.state.specs.Sound.{soundTransform, isClosed, needed, coloured, soundWaiting, soundGeometry};
-ghost use Rattle.state.specs.Sound.{soundStream, sound};
+ghost use Rattle.state.specs.Sound.{pendingOf, soundStream, sound};
 use commands::command_bytes_in;
 use commands::count_in;
 use commands::has_hole;
+use commands::is_known_in;
 use commands::parameter_table;
 use matrix::Matrix;
 
@@ -444,4 +445,13 @@ pub fn is_sound(e: Engine) -> bool
 {
     let table = parameter_table();
     is_sound_in(&table, e)
+}
+
+// A packed word has commands or its dummy to come. For the crates above this one: number 1 does not fall.
+pub fn is_packed_pending(table: &[u8; 256], s: Stream) -> bool
+    requires { ⌜ now table ≡ parameterTable ⌝ }
+    requires { ⌜ soundStream s ≡ true ⌝ }
+    ensures { λ r. ⌜ r ≡ packedPending (pendingOf s) ⌝ }
+{
+    is_known_in(table, (s.queue % 256) as u8) | s.dummy
 }

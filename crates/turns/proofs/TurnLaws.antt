@@ -114,9 +114,9 @@ module _ {A : Type 0} {step : Pending → A → Step} {items : List A} {i : ℕ}
   pub turned-on : {new : List ℕ} (many : ℕ) (n : Begun) (c : ℕ) (completed : List Command)
       → r ≡ turn (i + many) n c 0 false → length new ≡ length old → i + many ≤ length items
       → AllTaken step (pendingDue b old) (take many (drop i items)) (pendingDue n new) completed
-      → dueOf b ++ completed ≡ givenBy c new ++ dueOf n → Fit n
+      → dueOf b ++ completed ≡ givenBy c new ++ dueOf n → Fit n → (dueOf b ≡ [] → 1 ≤ many)
       → toCome (length items) (i + many) n < toCome (length items) i b → Turned step items i b old r new
-  turned-on {new} many n c completed is same within taken order fit less =
+  turned-on {new} many n c completed is same within taken order fit some less =
       subst (λ (r : Turn). Turned step items i b old r new) (sym is)
       (record {
         many = many;
@@ -132,6 +132,8 @@ module _ {A : Type 0} {step : Pending → A → Step} {items : List A} {i : ℕ}
         all-taken = λ t. never t;
         not-taken = λ t. never t;
         some-left = λ t. never t;
+        as-before = λ t. never t;
+        some-taken = λ t. some;
         less = λ t. less;
       })
 
@@ -156,6 +158,8 @@ module _ {A : Type 0} {step : Pending → A → Step} {items : List A} {i : ℕ}
         all-taken = λ t z. all;
         not-taken = λ t z. absurd (z refl);
         some-left = λ t z. absurd (z refl);
+        as-before = λ t z. absurd (z refl);
+        some-taken = λ t. never (sym t);
         less = λ t. never (sym t);
       })
 
@@ -184,6 +188,8 @@ module _ {A : Type 0} {step : Pending → A → Step} {items : List A} {i : ℕ}
           all-taken = λ t z. absurd (number z);
           not-taken = λ t z a l e. ap (step (pendingDue b old)) (first a l e) ∙ told;
           some-left = λ t z. omega arith;
+          as-before = λ t z. (refl, refl);
+          some-taken = λ t. never (sym t);
           less = λ t. never (sym t);
         })
       where

@@ -1,7 +1,7 @@
 -- What a turn over packed words gives, case by case.
 use mathlib.Core.Bool.{Bool, true, false}
 use mathlib.Core.List.{List, [], _∷_, _++_, append-nil}
-use mathlib.Core.Path.{_≡_, refl, sym, _∙_}
+use mathlib.Core.Path.{_≡_, refl, sym, ap, _∙_}
 use Prim.Native.Nat.{ℕ, zero, suc, _+_, _/_, _%_, _^_, _≤_, _<_}
 use native.Mathlib.Nat.{add-zero}
 use native.Mathlib.Omega.{arith}
@@ -66,7 +66,8 @@ module _ (b : Begun) (ws old : List ℕ) (i : ℕ) (long : length old ≡ 32) (f
       turned-on 0 (begun (b .queue / 256) 0 true 0) c [] (rw (add-zero i) is) refl (omega (arith, w))
       (rw (pending-none b fits k old z, pending-behind (b .queue / 256) true old) no-item)
       (append-nil (dueOf b) ∙ due-none b fits k z ∙ rw (given old, z, due-behind (b .queue / 256) true))
-      (fit-next true) (omega (arith, known-range c k))
+      (fit-next true) (λ n. absurd (omega (arith, ap length (sym n ∙ due-none b fits k z))))
+      (omega (arith, known-range c k))
     where
       by : (n : ℕ) → count c ≡ n → count c ≡ 0
       by zero z = z
@@ -87,7 +88,7 @@ module _ (b : Begun) (ws old : List ℕ) (i : ℕ) (long : length old ≡ 32) (f
       (all-taken wordStep (λ w. w) (queued (c ∷ q)) (count c) (more c q) h long (count-small c) (pendingBehind false q)
       (λ h. command c h ∷ atOnce q) (last c q) o e))
       (rw (due-some b fits k some, given new, due-behind (b .queue / 256) false))
-      (fit-next false) (omega (arith, w, fits, o))
+      (fit-next false) (λ n. o) (omega (arith, w, fits, o))
 
   -- words are lacking
   pub word-short : {r : Turn} {new : List ℕ} (left : ℕ) → b .count + left < count c → i + left ≡ length ws
@@ -136,7 +137,7 @@ module _ (b : Begun) (ws old : List ℕ) (i : ℕ) (f : Fit b) (k : known (b .qu
       word-dummy d is =
           turned-on 1 n 0 [] is refl (omega arith)
           (rw (one, due, d, pending-idle n k fit-n old, z, f .idle-held k z) (one-item {cs = []} refl no-item))
-          (rw (due-idle b k f, given-none old, due-idle n k fit-n)) fit-n (omega arith)
+          (rw (due-idle b k f, given-none old, due-idle n k fit-n)) fit-n (λ n. omega arith) (omega arith)
         where
           n : Begun
           n = begun (b .queue) (b .count) false (b .port)
@@ -174,4 +175,4 @@ module _ (b : Begun) (ws old : List ℕ) (i : ℕ) (f : Fit b) (k : known (b .qu
             turned-on 1 (begun x 0 false 0) 0 (atOnce q ++ []) is refl (omega arith)
             (rw (one, due, pending-behind x false old) (one-item (taken h) no-item))
             (rw (due-idle b k f, given-none old, due-behind x false, append-nil (atOnce q)))
-            (fit-behind x false h) (omega (arith, fits))
+            (fit-behind x false h) (λ n. omega arith) (omega (arith, fits))

@@ -205,7 +205,7 @@ module _ {b : Begun} {log old : List ℕ} {i c : ℕ} (t : Writable b c log i ol
   complete {r} {new} many some inside same taken is =
       turned-on many behind c (command c (take (count c) new) ∷ []) is same (omega (arith, inside, length-writes log))
       (rw (idle-then new) taken)
-      (rw (due-idle b k (t .fit), given-some c (t .some) new, due-idle behind k fit-then)) fit-then
+      (rw (due-idle b k (t .fit), given-some c (t .some) new, due-idle behind k fit-then)) fit-then (λ n. some)
       (omega (arith, some, inside, length-writes log))
 
   -- a port without parameters
@@ -239,7 +239,7 @@ module _ {b : Begun} {log old : List ℕ} {i c : ℕ} (t : Writable b c log i ol
         (rw (here, there)
         (some-taken portStep (write a) (on c (b .port)) (count c) (more takes) h (t .long)
         (count-small c) e))
-        (rw (due-idle b k (t .fit), given-none new, due-idle n k fit-n)) fit-n
+        (rw (due-idle b k (t .fit), given-none new, due-idle n k fit-n)) fit-n (λ e. some)
         (omega (arith, some, inside, length-writes log))
       where
         n : Begun

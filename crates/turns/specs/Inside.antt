@@ -92,6 +92,8 @@ pub record Turned {A : Type 0} (step : Pending → A → Step) (items : List A) 
   pub not-taken : r .ended ≡ true → (r .number ≡ 0 → ⊥) → (a : A) (l : List A) → drop (i + many) items ≡ a ∷ l
       → step (pendingDue (r .begun) new) a ≡ refused (r .number)
   pub some-left : r .ended ≡ true → (r .number ≡ 0 → ⊥) → i + many < length items
+  pub as-before : r .ended ≡ true → (r .number ≡ 0 → ⊥) → (r .begun ≡ b) × (new ≡ old)
+  pub some-taken : r .ended ≡ false → dueOf b ≡ [] → 1 ≤ many
   pub less : r .ended ≡ false → toCome (length items) (r .next) (r .begun) < toCome (length items) i b
 
 -- ---- packed words, or port writes

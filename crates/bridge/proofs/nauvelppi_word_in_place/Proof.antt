@@ -54,7 +54,7 @@ use denote.Triple.Clauses.{ensured, lasts}
 use Rattle.state.specs.declared.Engine.{Engine}
 use Rattle.state.specs.declared.Answer.{Answer}
 use Rattle.bridge.specs.declared.CallAnswer.{CallAnswer}
-use Rattle.engine.specs.Call.{machineOf, replyOf, GivenBack, wordReply}
+use Rattle.execute.specs.Call.{machineOf, replyOf, GivenBack, wordReply}
 use Rattle.bridge.specs.InPlace.{inPlace}
 use Rattle.state.proofs.Engine as T
 use Rattle.state.proofs.Engine.Laws as T′

@@ -2,13 +2,13 @@
 use mathlib.Core.Path.{_≡_, sym, ap, subst, _∙_}
 use lib.ListN.{length}
 use Rattle.state.specs.declared.Engine.{Engine}
+use Rattle.state.specs.declared.Answer.{Answer}
+use Rattle.state.specs.With.{answered}
 use Rattle.stacks.specs.declared.Matrices.{Matrices}
 use Rattle.stacks.specs.Inside.{matricesFrom}
-use Rattle.engine.specs.Call.{machineOf}
-use Rattle.engine.specs.Inside.{firstNumber}
-use Rattle.feeding.specs.declared.Fed.{Fed as FedAnswer}
-use Rattle.feeding.specs.Feed.{fedOf, feedAs}
-use Rattle.feeding.specs.Inside.{engineFrom, endedAs}
+use Rattle.execute.specs.Inside.{firstNumber}
+use Rattle.feeding.specs.Inside.{engineFrom}
+use Rattle.feeding.proofs.LoopLaws.{told-as}
 use borrow.Author.Needs.{needs}
 use Rattle.feeding.proofs.feed_sound.Statement.{statement}
 use Rattle.feeding.proofs.feed_sound.Tie as tie
@@ -59,8 +59,11 @@ run-turns-requires c κs =
 matrices-from-requires : tie.Need-matrices-from-requires
 matrices-from-requires c κs = search needs
 
-put-together-requires : tie.Need-put-together-requires
-put-together-requires c κs = search needs
+engine-from-requires : tie.Need-engine-from-requires
+engine-from-requires c κs = search needs
+
+answered-requires : tie.Need-answered-requires
+answered-requires c κs = search needs
 
 same-length : tie.Need-same-length
 same-length c = search needs
@@ -70,21 +73,19 @@ same-length-2 c = search needs
 
 returns : tie.Need-returns
 returns c =
-    let s = c .before .before .before .before .before .before .before .before .before .before .before .before .before
-    .before .before .before .before .before .before .before .before .before .before .before .before .before .before
-    .before .before .before .before .before in
-    let a = s .args in
-    let r = c .before .before .before .before .before .before .run-turns .result in
-    let vs = c .before .before .before .before .before .before .run-turns .last .1 .1 .1 .1 .1 .1 .1 .1 .1 .1 .1 .1 .1
-    .1 .0 in
-    let ps = c .before .before .before .before .before .before .run-turns .last .1 .1 .1 .1 .1 .1 .1 .1 .1 .1 .1 .1 .1
-    .1 .1 .0 in
-    ap (λ (f : FedAnswer). fedOf f vs ps) (c .put-together .ensures)
-    ∙ ap (λ (m : Matrices). endedAs r m vs ps) (c .before .matrices-from .ensures)
-    ∙ c .before .before .before .before .before .before .run-turns .ensures
-    ∙ ap (λ (e : Engine). feedAs (a .log) (machineOf e (a .vertices .now) (a .polygons .now)) (a .words .now))
-    (whole-is (c .before .before .before .before .before .before .before .before .before .before .before .before .before
-    .before .before .before .before))
+    let call = c .before .before .before .before .before .before .before .before .before .run-turns in
+    let r = call .result in
+    (
+      told-as (whole-is (c .before .before .before .before .before .before .before .before .before .before .before .before .before
+          .before .before .before .before .before .before .before)) (c .answered .result)
+          (c .answered .ensures
+          ∙ ap (answered (r .number))
+          (c .before .engine-from .ensures
+          ∙ ap (λ (m : Matrices). engineFrom m (r .geometry) (r .stream))
+          (c .before .before .before .before .matrices-from .ensures)))
+          (call .ensures),
+      ap (λ (x : Answer). x .place) (c .answered .ensures),
+    )
 
 pub feed-sound-spec : {M : Type 1} → statement M
 feed-sound-spec =
@@ -95,7 +96,8 @@ feed-sound-spec =
     levels-of-requires
     run-turns-requires
     matrices-from-requires
-    put-together-requires
+    engine-from-requires
+    answered-requires
     same-length
     same-length-2
     returns)

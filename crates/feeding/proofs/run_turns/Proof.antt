@@ -24,20 +24,18 @@ use Rattle.stream.specs.Pending.{Pending}
 use Rattle.stream.specs.Call.{machine}
 use Rattle.turns.specs.declared.Begun.{Begun}
 use Rattle.turns.specs.Inside.{toCome, itemsIn}
-use Rattle.engine.specs.Call.{machineOf}
-use Rattle.engine.specs.Inside.{firstNumber}
+use Rattle.execute.specs.Call.{machineOf}
+use Rattle.execute.specs.Inside.{firstNumber}
+use Rattle.execute.proofs.Calls.{passed}
 use Rattle.feeding.specs.Feed.{fed, feedAs}
 use Rattle.feeding.specs.Inside.{coreFrom, engineFrom}
-use Rattle.feeding.proofs.Looping.{Feeding, looping-ran, same-size, turn-less, core-level, looping-long}
-use Rattle.feeding.proofs.First.{looping-first}
-use Rattle.feeding.proofs.Ends.{end-pending, ended-as, end-due, end-fit}
+use Rattle.feeding.proofs.Looping.{streamWith, Feeding, goes-on, looping-ran, same-size}
+use Rattle.feeding.proofs.Looping.{turn-less, core-level, looping-long}
+use Rattle.feeding.proofs.First.{first-due, looping-first}
+use Rattle.feeding.proofs.Ends.{end-pending, ended-as, ended-untouched, end-due, end-fit}
 use Rattle.feeding.proofs.Arms.{ran-stack, ran-matrix, ran-colour, ran-end, ran-geometry, ran-carried, ran-none}
 use Rattle.feeding.proofs.run_turns.Statement.{statement}
 use Rattle.feeding.proofs.run_turns.Tie as tie
-
--- a stream of what is pending and the parameters that are held
-abbrev streamWith : Begun → List ℕ → Stream
-streamWith b held = record { queue = b .queue; held = held; count = b .count; dummy = b .dummy; port = b .port }
 
 abbrev Inv-loop : tie.InvT-loop
 Inv-loop table log words position₀ vector₀ positions₀ vectors₀ projection₀ projection-slot₀ texture₀ texture-slot₀
@@ -158,6 +156,8 @@ module _ (c : tie.After-operation-of Inv-loop μ-loop) where
         held-long = held-long turned;
         positions-long = positions-long;
         vectors-long = vectors-long;
+        untouched = λ z. absurd (goes-on (a .log) (a .words .now) (l .i) (l .begun) (l .work .held) (call .result)
+            (held turned) (call .ensures .0) (c .before .if1 .left) (λ none. l .inv .untouched none .0) z);
       }
 
 held-of-requires : tie.Need-held-of-requires Inv-loop μ-loop
@@ -185,6 +185,11 @@ loop-holds c =
       held-long = b .before .held-of .ensures .1;
       positions-long = s .pre .1 .0 .0;
       vectors-long = s .pre .1 .0 .1;
+      untouched = λ z. (
+        first-due (begins b .stream) (b .before .held-of .ensures .1) small
+            (passed (begins b) (length (a .vertices .now)) (length (a .polygons .now)) (first-is b) .stream),
+        refl,
+      );
     }
 
 turn-at-requires : tie.Need-turn-at-requires Inv-loop μ-loop
@@ -205,12 +210,12 @@ enum-known-k : tie.Need-enum-known-k Inv-loop μ-loop
 enum-known-k c =
     search needs
 
-element-copy-out-run-stack-in-place : tie.Need-element-copy-out-run-stack-in-place Inv-loop μ-loop
-element-copy-out-run-stack-in-place c =
+element-copy-out-run-stack : tie.Need-element-copy-out-run-stack Inv-loop μ-loop
+element-copy-out-run-stack c =
     search needs
 
-run-stack-in-place-requires : tie.Need-run-stack-in-place-requires Inv-loop μ-loop
-run-stack-in-place-requires c κs =
+run-stack-requires : tie.Need-run-stack-requires Inv-loop μ-loop
+run-stack-requires c κs =
     let s = at (c .before .before .before .before .before .before .before .before .before .before .before .before) in
     let l = s .loop in (
       core-level (coreFrom (current s) (l .work .geometry)) (l .inv .looping .kept .sound),
@@ -229,9 +234,9 @@ loop-again c =
     again (o) _ (c .before .before .before .before .before .before .before .before .before .before .before .k .given .1)
     (_) (l .work .geometry) (l .vertices) (l .polygons) (l .clip) false
     (ran-stack (current (at o)) (l .work .geometry) (l .vertices) (l .polygons) (held (turned o)) _ _
-    (c .run-stack-in-place .ensures .0))
+    (c .run-stack .ensures .0))
     (λ t. absurd (false≢true t))
-    (c .run-stack-in-place .ensures .1 .0) (c .run-stack-in-place .ensures .1 .1)
+    (c .run-stack .ensures .1 .0) (c .run-stack .ensures .1 .1)
 
 enum-known-r : tie.Need-enum-known-r Inv-loop μ-loop
 enum-known-r c =
@@ -241,8 +246,8 @@ enum-known-r-2 : tie.Need-enum-known-r-2 Inv-loop μ-loop
 enum-known-r-2 c =
     search needs
 
-run-matrix-in-place-requires : tie.Need-run-matrix-in-place-requires Inv-loop μ-loop
-run-matrix-in-place-requires c κs =
+run-matrix-requires : tie.Need-run-matrix-requires Inv-loop μ-loop
+run-matrix-requires c κs =
     held-long (c .before .before .before .before .before .before .before .before .before .before .before .before .before
     .before .before)
 
@@ -259,7 +264,7 @@ loop-again-2 c =
     ∙ ap Register (c .before .before .before .before .before .before .before .before .r2 .given .1)) (_)
     (l .work .geometry) (l .vertices) (l .polygons) (l .clip) false
     (ran-matrix (current (at o)) (l .work .geometry) (l .vertices) (l .polygons) (held (turned o)) _ _
-    (c .run-matrix-in-place .ensures (current (at o) .transform)))
+    (c .run-matrix .ensures (current (at o) .transform)))
     (λ t. absurd (false≢true t))
     (l .inv .positions-long) (l .inv .vectors-long)
 
@@ -414,21 +419,30 @@ returns c =
     let first = first-is (s .before .before) in
     let t : Buffered Core = buffered (coreFrom (current s) (l .work .geometry)) (l .vertices) (l .polygons) in
     let end = c .before .before .before .if1 .taken in
-    ap (λ (x : Stream). fed (r .next) (r .number) (machineOf (engineFrom (current s) (l .work .geometry) x)
-    (l .vertices) (l .polygons)))
-    (c .stream-of .ensures)
-    ∙ ap (λ (p : Pending). fed (r .next) (r .number) (machine t p))
-    (end-pending (r .begun) new (told .1 .2)
-    (end-fit e (a .vertices .now) (a .polygons .now) first (a .words .now) (l .i) (l .begun) (l .work .held) t r new
-    (a .log) (told .0))
-    (end-due e (a .vertices .now) (a .polygons .now) first (a .words .now) (l .i) (l .begun) (l .work .held) t r new
-    (a .log) (told .0) end)
-    _ refl)
-    ∙ ended-as e (a .vertices .now) (a .polygons .now) first (a .words .now) (l .i) (l .begun) (l .work .held) t r new
-    (a .log)
-    (l .inv .looping) (told .0) end
-    ∙ ap (λ (e : Engine). feedAs (a .log) (machineOf e (a .vertices .now) (a .polygons .now)) (a .words .now))
-    (begins-is (s .before .before))
+    record {
+      is =
+        ap (λ (x : Stream). fed (r .next) (r .number) (machineOf (engineFrom (current s) (l .work .geometry) x)
+        (l .vertices) (l .polygons)))
+        (c .stream-of .ensures)
+        ∙ ap (λ (p : Pending). fed (r .next) (r .number) (machine t p))
+        (end-pending (r .begun) new (told .1 .2)
+        (end-fit e (a .vertices .now) (a .polygons .now) first (a .words .now) (l .i) (l .begun) (l .work .held) t r new
+        (a .log) (told .0))
+        (end-due e (a .vertices .now) (a .polygons .now) first (a .words .now) (l .i) (l .begun) (l .work .held) t r new
+        (a .log) (told .0) end)
+        _ refl)
+        ∙ ended-as e (a .vertices .now) (a .polygons .now) first (a .words .now) (l .i) (l .begun) (l .work .held) t r new
+        (a .log)
+        (l .inv .looping) (told .0) end
+        ∙ ap (λ (e : Engine). feedAs (a .log) (machineOf e (a .vertices .now) (a .polygons .now)) (a .words .now))
+        (begins-is (s .before .before));
+      given-back = λ n z.
+          ap (engineFrom (current s) (l .work .geometry)) (c .stream-of .ensures)
+          ∙ ended-untouched e (a .vertices .now) (a .polygons .now) first (a .words .now) (l .i) (l .begun)
+          (l .work .held) t r new (a .log) (told .0) end n z (current s) (l .work .geometry) (l .inv .untouched)
+          (l .inv .held-long) (told .1 .2)
+          ∙ begins-is (s .before .before);
+    }
 
 pub run-turns-spec : {M : Type 1} → statement M
 run-turns-spec =
@@ -443,13 +457,13 @@ run-turns-spec =
     turn-at-requires
     operation-of-requires
     enum-known-k
-    element-copy-out-run-stack-in-place
-    run-stack-in-place-requires
+    element-copy-out-run-stack
+    run-stack-requires
     loop-less
     loop-again
     enum-known-r
     enum-known-r-2
-    run-matrix-in-place-requires
+    run-matrix-requires
     loop-less-2
     loop-again-2
     enum-known-r-3

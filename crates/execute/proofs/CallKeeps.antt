@@ -1,27 +1,25 @@
 -- Both calls keep the engine sound, the rooms and the lengths of the buffers, whatever they answer. Assumes nothing.
 use mathlib.Core.Bool.{true, and-eq-true-iff}
 use mathlib.Core.List.{List}
-use mathlib.Core.Path.{_≡_, refl, sym, subst}
+use mathlib.Core.Path.{_≡_, refl}
 use Prim.Native.Nat.{ℕ}
 use lib.IntN.{ℤ}
 use lib.ListN.{length}
 use Rattle.stream.specs.Pending.{soundPending}
 use Rattle.stream.specs.Command.{Command, Complete, Write}
 use Rattle.stream.specs.Step.{wordStep, portStep}
-use Rattle.stream.specs.Call.{Machine, Reply}
+use Rattle.stream.specs.Call.{Machine}
 use Rattle.stream.proofs.StepLaws.{word-keeps, port-keeps}
 use Rattle.stream.proofs.CallLaws.{Keeping, call-keeps}
 use Rattle.state.specs.declared.Core.{Core}
 use Rattle.state.specs.declared.Engine.{Engine}
-use Rattle.state.specs.declared.Answer.{Answer}
 use Rattle.state.specs.Sound.{soundCore, pendingOf, soundStream, sound}
 use Rattle.state.proofs.SoundLaws.{sound-parts}
 use Rattle.polygons.specs.Buffers.{Buffered, buffered}
-use Rattle.execute.proofs.Keeps.{CoreKept, execute-kept}
+use Rattle.execute.proofs.Keeps.{CoreKept, core-kept-more, execute-kept}
 use Rattle.execute.specs.Execute.{buffersLong}
-use Rattle.engine.specs.Call.{exec, coreSound, machineOf, replyOf, wordReply, portReply}
-use Rattle.engine.proofs.Run.{core-kept-more}
-use Rattle.engine.proofs.Calls.{sound-core}
+use Rattle.execute.specs.Call.{exec, coreSound, machineOf, wordReply, portReply}
+use Rattle.execute.proofs.Calls.{sound-core}
 
 -- an engine and its buffers after a call
 pub record EngineKept (e : Engine) (vertices : List ℤ) (polygons : List ℕ) (f : Engine) (vs : List ℤ) (ps : List ℕ)
@@ -64,19 +62,3 @@ module _ (e : Engine) (vertices : List ℤ) (polygons : List ℕ) where
         vertices-length = k .0 .vertices;
         polygons-length = k .0 .polygons;
       }
-
-  module _ (h : sound e ≡ true) (r : Answer) (vs : List ℤ) (ps : List ℕ) where
-    from-reply : {x : Reply (Buffered Core)} → Kept (x .left) → replyOf r vs ps ≡ x
-        → EngineKept e vertices polygons (r .engine) vs ps
-    from-reply k told =
-        engine-kept (r .engine) vs ps (subst (λ (y : Reply (Buffered Core)). Kept (y .left)) (sym told) k)
-
-    -- an answer that meets the word call's contract
-    pub word-kept : (w : ℕ) → replyOf r vs ps ≡ wordReply (machineOf e vertices polygons) w
-        → EngineKept e vertices polygons (r .engine) vs ps
-    word-kept w = from-reply (kept-by-word (machineOf e vertices polygons) w (kept-at-first h))
-
-    -- and one that meets the port write call's
-    pub port-kept : (w : Write) → replyOf r vs ps ≡ portReply (machineOf e vertices polygons) w
-        → EngineKept e vertices polygons (r .engine) vs ps
-    port-kept w = from-reply (kept-by-port (machineOf e vertices polygons) w (kept-at-first h))

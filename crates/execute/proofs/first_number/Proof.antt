@@ -1,12 +1,12 @@
--- `engine::first_number` meets its contract. Assumes nothing.
+-- `execute::first_number` meets its contract. Assumes nothing.
 use mathlib.Core.Path.{_≡_, sym, _∙_}
 use mathlib.Core.Bool.{true}
 use borrow.Author.Tests.{not-true, not-false}
 use borrow.Author.Needs.{needs}
 use Rattle.state.specs.Sound.{sound}
-use Rattle.engine.proofs.Calls.{not-sound, not-long, neither, sound-rooms}
-use Rattle.engine.proofs.first_number.Statement.{statement}
-use Rattle.engine.proofs.first_number.Tie as tie
+use Rattle.execute.proofs.Calls.{not-sound, not-long, neither, sound-rooms}
+use Rattle.execute.proofs.first_number.Statement.{statement}
+use Rattle.execute.proofs.first_number.Tie as tie
 
 is-sound-in-requires : tie.Need-is-sound-in-requires
 is-sound-in-requires c κs = search needs

@@ -1,3 +1,0 @@
-pub mod Run
-pub mod Calls
-pub mod Keeps
