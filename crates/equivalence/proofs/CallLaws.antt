@@ -12,6 +12,7 @@ use Rattle.state.specs.declared.Core.{Core}
 use Rattle.polygons.specs.Buffers.{Buffered}
 use Rattle.execute.specs.Call.{wordReply}
 use Rattle.equivalence.specs.Calls.{Lent, machineAt, Calls, none, one, AllZero, BothSides, CallsAgree}
+use Rattle.equivalence.specs.Calls.{CallsDemand3}
 use Rattle.equivalence.proofs.Agree.{engine-demand3}
 
 module _ {A : Type 0} {call : Machine (Buffered Core) → A → Reply (Buffered Core)} where
@@ -31,28 +32,26 @@ module _ {A : Type 0} {call : Machine (Buffered Core) → A → Reply (Buffered 
     calls-taken rest (subst (λ (x : Reply (Buffered Core)). AllTaken call (x .left) l) (sym e) (h .1)),
   )
 
-module _ {log : List ℕ} {packed : OutputAnswer} {old output : List ℕ} {s t : Lent}
-    (b : BothSides log packed old output s t) where
-  -- the packer's definition accepts the log
-  defined : pack (length old) log .number ≡ 0
-  defined = sym (ap (λ (x : OutputAnswer). x .number) (b .stores .answer)) ∙ b .accepted
+-- demand 3 of both sides of the words that the definition gives
+pub sides-demand3 : (capacity : ℕ) {log words : List ℕ} {s t : Lent} → pack capacity log .number ≡ 0
+    → words ≡ pack capacity log .words → (n : ℕ) → n ≡ length (pack capacity log .words)
+    → (b : BothSides log words s t) → CallsAgree n b
+sides-demand3 capacity {log} {words} {s} {t} accepted are n long b =
+    let d = engine-demand3 capacity log (s .engine) (s .vertices) (s .polygons) accepted (b .start) in
+    let packed = pack capacity log .words in
+    let calls : Calls wordReply t packed (b .word-numbers) (b .by-words) =
+    subst (λ (l : List ℕ). Calls wordReply t l (b .word-numbers) (b .by-words)) are (b .word-calls) in
+    let e : after wordReply (machineAt s) packed ≡ machineAt (b .by-words) =
+    ap (λ (m : Machine (Buffered Core)). after wordReply m packed) (b .equal-starts) ∙ sym (calls-end calls) in
+    record {
+      writes-taken = calls-taken (b .write-calls) (d .writes-taken);
+      words-taken = calls-taken calls
+          (subst (λ (m : Machine (Buffered Core)). AllTaken wordReply m packed) (b .equal-starts) (d .words-taken));
+      sides-agree = rw (long, calls-end (b .write-calls), ← e) (d .sides-agree);
+    }
 
-  word-calls : Calls wordReply t (pack (length old) log .words) (b .word-numbers) (b .by-words)
-  word-calls =
-      subst (λ (l : List ℕ). Calls wordReply t l (b .word-numbers) (b .by-words)) (stored-words (b .stores))
-      (b .word-calls)
-
-  -- demand 3 of what the functions answer
-  pub calls-demand3 : CallsAgree b
-  calls-demand3 =
-      let d = engine-demand3 (length old) log (s .engine) (s .vertices) (s .polygons) defined (b .start) in
-      let words = pack (length old) log .words in
-      let e : after wordReply (machineAt s) words ≡ machineAt (b .by-words) =
-      ap (λ (m : Machine (Buffered Core)). after wordReply m words) (b .equal-starts) ∙ sym (calls-end word-calls) in
-      let n : packed .length ≡ length words = ap (λ (x : OutputAnswer). x .length) (b .stores .answer) in
-      record {
-        writes-taken = calls-taken (b .write-calls) (d .writes-taken);
-        words-taken = calls-taken word-calls
-            (subst (λ (m : Machine (Buffered Core)). AllTaken wordReply m words) (b .equal-starts) (d .words-taken));
-        sides-agree = rw (n, calls-end (b .write-calls), ← e) (d .sides-agree);
-      }
+-- and of those that a packer answers
+pub calls-demand3 : CallsDemand3
+calls-demand3 log packed old output s t stores accepted b =
+    sides-demand3 (length old) (sym (ap (λ (x : OutputAnswer). x .number) (stores .answer)) ∙ accepted)
+    (stored-words stores) (packed .length) (ap (λ (x : OutputAnswer). x .length) (stores .answer)) b

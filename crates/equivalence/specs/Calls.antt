@@ -46,11 +46,9 @@ abbrev pub AllZero : List ℕ → Type 0
 AllZero [] = Unit {0}
 AllZero (n ∷ numbers) = (n ≡ 0) × AllZero numbers
 
--- Both sides of a log. `packed` is what a packer answered, whose output held `old` before and `output` after; s is
--- where the port writes start and t where the packed words do.
-pub record BothSides (log : List ℕ) (packed : OutputAnswer) (old output : List ℕ) (s t : Lent) : Type 0 where
-  pub stores : Stores (pack (length old) log) packed old output
-  pub accepted : packed .number ≡ 0
+-- Both sides of a log, which was packed to these words: s is where the port writes start and t where the packed words
+-- do.
+pub record BothSides (log words : List ℕ) (s t : Lent) : Type 0 where
   pub start : Start (s .engine) (s .vertices) (s .polygons)
   pub equal-starts : machineAt s ≡ machineAt t
   pub by-writes : Lent
@@ -58,12 +56,18 @@ pub record BothSides (log : List ℕ) (packed : OutputAnswer) (old output : List
   pub write-calls : Calls portReply s (writes log) write-numbers by-writes
   pub by-words : Lent
   pub word-numbers : List ℕ
-  -- "the packed words are then its output up to the length"
-  pub word-calls : Calls wordReply t (take (packed .length) output) word-numbers by-words
+  pub word-calls : Calls wordReply t words word-numbers by-words
 
--- and what holds of them
-pub record CallsAgree {log : List ℕ} {packed : OutputAnswer} {old output : List ℕ} {s t : Lent}
-    (b : BothSides log packed old output s t) : Type 0 where
+-- and what holds of them; n is the length that the packer answered
+pub record CallsAgree (n : ℕ) {log words : List ℕ} {s t : Lent} (b : BothSides log words s t) : Type 0 where
   pub writes-taken : AllZero (b .write-numbers)
   pub words-taken : AllZero (b .word-numbers)
-  pub sides-agree : SidesAgree log (packed .length) (machineAt (b .by-writes)) (machineAt (b .by-words))
+  pub sides-agree : SidesAgree log n (machineAt (b .by-writes)) (machineAt (b .by-words))
+
+-- Demand 3: a packer answered `packed` and accepted the log, its output `old` before and `output` after; "the packed
+-- words are then its output up to the length"
+abbrev pub CallsDemand3 : Type 0
+CallsDemand3 =
+    (log : List ℕ) (packed : OutputAnswer) (old output : List ℕ) (s t : Lent)
+    → Stores (pack (length old) log) packed old output → packed .number ≡ 0
+    → (b : BothSides log (take (packed .length) output) s t) → CallsAgree (packed .length) b

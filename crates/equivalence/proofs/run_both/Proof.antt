@@ -72,8 +72,8 @@ returns-2 c =
     let fed = c .before .before .before .before .before .before .before .before .before .before .before in
     let accepted = fed .before .before .before in
     let packed = accepted .before .before .before .before in
-    both-ran (packed .pack .ensures) (accepted .if1 .left) (fed .feed-writes .ensures)
-    (c .before .before .before .feed-words .ensures)
+    both-ran (packed .pack .ensures) (accepted .if1 .left) (fed .feed-writes .ensures .0)
+    (c .before .before .before .feed-words .ensures .0)
 
 pub run-both-spec : {M : Type 1} → statement M
 run-both-spec =

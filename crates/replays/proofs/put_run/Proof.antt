@@ -18,7 +18,7 @@ kept c =
     let start = c .before .before .before .before .before .before in
     let a = start .args in
     run-kept (a .log) (a .e) (a .vertices .now) (a .polygons .now) (start .pre .0 .0) (a .words .now)
-    (c .feed-as .result) _ _ (c .feed-as .ensures)
+    (c .feed-as .result) _ _ (c .feed-as .ensures .0)
 
 feed-as-requires : tie.Need-feed-as-requires
 feed-as-requires c κs = search needs
@@ -45,7 +45,7 @@ returns : tie.Need-returns
 returns c =
     let put = c .before .before in
     let fed = put .before .before .before .before .before .before .before in
-    let told = fed .feed-as .ensures in (
+    let told = fed .feed-as .ensures .0 in (
       rw told at (put .put-fed .ensures .0),
       (
         ap (λ (f : Fed (Buffered Core)). f .left .state .vertices) told,
