@@ -51,7 +51,7 @@ module _ (capacity : ℕ) {log : List ℕ} (a : Allowed log) where
     unfolding logCommands
     accepted-log z =
         read-whole packedWords (logCommands (writes log)) m is
-        (λ n p. stopped-number portStep port-keeps (writes log) 0 0 idle n p idle-sound) z
+        (λ n p e. stopped-number portStep port-keeps (writes log) 0 0 idle n p idle-sound e .least) z
 
     module _ (w : ReadWhole packedWords (logCommands (writes log)) m is) where
       by-commands : pack capacity log ≡ packCommands capacity (orNone (logCommands (writes log)))

@@ -4,11 +4,11 @@ use mathlib.Core.Bool.{Bool, cond}
 use mathlib.Core.List.{List, [], _∷_, _++_}
 use Prim.Native.Nat.{ℕ}
 use lib.IntN.{ℤ, pos}
-use lib.ListN.{getD, take, drop}
+use lib.ListN.{getD, drop}
 use Rattle.listing.specs.Text.{ascii, decimal, hex8, wordLine, linesOf, numberLine}
 use Rattle.stream.specs.Pending.{Pending, isPending}
 use Rattle.stream.specs.Call.{Machine}
-use Rattle.state.specs.List.{listOf}
+use Rattle.state.specs.List.{listOf, waitingVertices}
 use Rattle.state.specs.declared.OpenList.{OpenList}
 use Rattle.state.specs.declared.OpenList.the-variants.{Closed, Triangles, Quads, TriangleStrip, QuadStrip}
 use Rattle.state.specs.declared.Coordinates.{Coordinates}
@@ -81,10 +81,6 @@ vertexLine v = signed (getD v 0 (pos 0)) ++ numbersLine [] (drop 1 v)
 
 abbrev pub vertexLines : List (List ℤ) → List ℕ
 vertexLines = linesOf vertexLine
-
--- the vertices that wait for the next polygon, in order
-abbrev pub waitingVertices : Waiting → List (List ℤ)
-waitingVertices w = take (w .count) (w .first ∷ w .second ∷ w .third ∷ [])
 
 unfoldable pub waitingText : Waiting → List ℕ
 waitingText w = numberLine (ascii "waiting ") (w .count) ++ vertexLines (waitingVertices w)

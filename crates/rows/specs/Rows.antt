@@ -5,12 +5,12 @@ use mathlib.Core.List.{List, [], _∷_, _++_, map}
 use mathlib.Core.Path.{_≡_, refl}
 use Prim.Native.Nat.{ℕ, zero, suc, _*_}
 use lib.IntN.{ℤ, pos, negsuc}
-use lib.ListN.{set, replicate}
+use lib.ListN.{replicate}
 use Rattle.lowbits.specs.Bits.{floorBits, lowBits, asSigned}
 use Rattle.words.specs.Words.{wordsOf, bytesOf}
 use Rattle.commands.specs.declared.Count.the-variants.{Takes, Unknown}
 use Rattle.commands.specs.Commands.{commandRows, lookup, known, count, port, counted, commandAt, commandBytes, hole}
-use Rattle.matrix.specs.Matrix.{entry, rowBy, mul, unit, scaleMatrix, at, one}
+use Rattle.matrix.specs.Matrix.{entry, rowBy, mul, unit, scaleMatrix, at}
 use Rattle.stream.specs.Pending.{idle, dummyDue, queued, commandsOf, soundPending}
 use Rattle.stream.specs.Command.{takesNone, command, write}
 use Rattle.stream.specs.Step.{commandWord, parameterWord, wordStep, heldWith, portParameter, portStep}
@@ -35,7 +35,7 @@ use Rattle.stacks.specs.Slot.{slotAt}
 use Rattle.stacks.specs.Stack.{level, target, stored, loaded, pushPair, popPair, storePair, runStack}
 use Rattle.transforms.specs.declared.MatrixCommand.the-variants.{Mode}
 use Rattle.transforms.specs.Act.{onPair, act}
-use Rattle.transforms.specs.Command.{runMatrix}
+use Rattle.transforms.specs.Command.{numbersOf, runMatrix}
 use Rattle.positions.specs.Position.{coordinates, positionAfter}
 use Rattle.polygons.specs.Buffers.{Buffered, buffered, polygonWidth, longEnough, withVertex, withPolygon}
 use Rattle.polygons.specs.Records.{vertexRecord}
@@ -67,10 +67,6 @@ AllHold (r ∷ rs) = (r .computed ≡ r .stated) × AllHold rs
 abbrev knownBelow : ℕ → ℕ
 knownBelow zero = 0
 knownBelow (suc n) = cond (known n) (suc (knownBelow n)) (knownBelow n)
-
--- a raw number in the corner of the current matrix after a scale of X by another
-abbrev scaled : ℤ → ℤ → ℤ
-scaled raw by = at (mul (scaleMatrix by one one) (set unit 0 raw)) 0
 
 -- a stream with this rest of a command word, n parameters held, and so on
 abbrev streamOf : ℕ → ℕ → Bool → ℕ → Stream
@@ -119,6 +115,12 @@ noBuffers m = machine (buffered (m .state .part) [] []) (m .pending)
 -- commands one after another, each a byte and its parameters
 abbrev runs : List (ℕ × List ℕ) → Buffered Core → Buffered Core
 runs cs = run exec (map (λ (c : ℕ × List ℕ). command (c .0) (c .1)) cs)
+
+-- 16h with this word first and fifteen zeros, then 1Bh, which scales X by the next: the corner of the current matrix
+abbrev scaled : ℕ → ℕ → ℤ
+scaled raw by =
+    let cs : List (ℕ × List ℕ) = (0x16, raw ∷ replicate 15 0) ∷ (0x1b, by ∷ 0x1000 ∷ 0x1000 ∷ []) ∷ [] in
+    at (runs cs (startWith 1 1) .part .registers .transform .projection .matrix) 0
 
 -- 23h with X = x, Y = Z = 0
 abbrev vertex : ℕ → ℕ × List ℕ
@@ -200,9 +202,8 @@ callRows =
 
 abbrev pub matrixRows : List WorkedRow
 matrixRows =
-    -- 3: scale raw 1 by raw -1 gives -1; by 4095 gives 0; raw 7FFFFFFFh by 8192 gives -2
-    row (scaled (pos 1) (negsuc 0) ∷ scaled (pos 1) (pos 4095) ∷ scaled (pos 0x7fff_ffff) (pos 8192) ∷ [])
-    (negsuc 0 ∷ pos 0 ∷ negsuc 1 ∷ [])
+    -- 3: scale raw 1 by raw -1 gives -1; by 4095 gives 0; raw 7FFFFFFFh by 8192 gives -2; -1 is the word FFFFFFFFh
+    row (scaled 1 0xffff_ffff ∷ scaled 1 4095 ∷ scaled 0x7fff_ffff 8192 ∷ []) (negsuc 0 ∷ pos 0 ∷ negsuc 1 ∷ [])
     ∷ []
 
 abbrev pub stackRows : List WorkedRow
@@ -397,7 +398,8 @@ calls = (
 )
 
 matrices : AllHold matrixRows
-unfolding floorBits lowBits asSigned entry rowBy mul unit scaleMatrix
+unfolding floorBits lowBits asSigned entry rowBy mul unit scaleMatrix freshTransform freshGeometry fresh withRooms start
+    numbersOf act runMatrix registerCommandOf operationOf runRegisters runOperation execute
 matrices = (refl, tt)
 
 stacks : AllHold stackRows

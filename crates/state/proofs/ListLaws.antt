@@ -1,10 +1,12 @@
 -- The open list and its number. Assumes nothing.
-use mathlib.Core.Bool.{true, false}
-use mathlib.Core.Path.{_≡_, refl}
+use mathlib.Core.Bool.{Bool, true, false}
+use mathlib.Core.Path.{_≡_, refl, sym, _∙_}
 use Prim.Native.Nat.{ℕ, zero, suc}
+use native.Mathlib.Omega.{arith}
+use borrow.Author.Tests.{ltb-true}
 use Rattle.state.specs.declared.OpenList.{OpenList}
 use Rattle.state.specs.declared.OpenList.the-variants.{Closed, Triangles, Quads, TriangleStrip, QuadStrip}
-use Rattle.state.specs.List.{isList, listOf, numberOf}
+use Rattle.state.specs.List.{isList, listOf, numberOf, kindIn, nextOdd}
 
 pub list-back : (l : OpenList) → listOf (numberOf l) ≡ l
 unfolding listOf
@@ -34,3 +36,27 @@ closed-else (suc (suc (suc zero))) a b c d e = absurd (c refl)
 closed-else (suc (suc (suc (suc zero)))) a b c d e = absurd (d refl)
 closed-else (suc (suc (suc (suc (suc zero))))) a b c d e = absurd (e refl)
 closed-else (suc (suc (suc (suc (suc (suc n)))))) a b c d e = refl
+
+-- the list of a kind, with its next k
+abbrev listWith : OpenList → Bool → OpenList
+listWith Closed odd = Closed
+listWith Triangles odd = Triangles
+listWith Quads odd = Quads
+listWith (TriangleStrip even) odd = TriangleStrip odd
+listWith QuadStrip odd = QuadStrip
+
+number-told : (n : ℕ) → isList n ≡ true → numberOf (listWith (kindIn n) (nextOdd n)) ≡ n
+unfolding listOf
+number-told zero h = refl
+number-told (suc zero) h = refl
+number-told (suc (suc zero)) h = refl
+number-told (suc (suc (suc zero))) h = refl
+number-told (suc (suc (suc (suc zero)))) h = refl
+number-told (suc (suc (suc (suc (suc zero))))) h = refl
+number-told (suc (suc (suc (suc (suc (suc n)))))) h =
+    absurd (omega (arith, ltb-true (suc (suc (suc (suc (suc (suc n)))))) 6 h))
+
+-- the number of a list says its kind and whether its next k is odd, and no more
+pub same-number : (m n : ℕ) → isList m ≡ true → isList n ≡ true → kindIn m ≡ kindIn n → nextOdd m ≡ nextOdd n → m ≡ n
+same-number m n g h k o =
+    sym (number-told m g) ∙ (λ t. numberOf (listWith (k t) (o t))) ∙ number-told n h

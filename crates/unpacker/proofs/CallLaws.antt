@@ -48,7 +48,7 @@ accepted place l m h is z = record {
   short = h;
   is = is;
   whole = read-whole commandsLog (listCommands place l) m is
-      (λ n p. stopped-number wordStep word-keeps (drop place l) place 0 idle n p idle-sound) z;
+      (λ n p e. stopped-number wordStep word-keeps (drop place l) place 0 idle n p idle-sound e .least) z;
 }
 
 module _ {place : ℕ} {l : List ℕ} {m : OutputAnswer} (capacity : ℕ) (a : Accepted place l m) where
