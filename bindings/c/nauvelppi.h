@@ -5,10 +5,10 @@
  * Any bytes, any sizes and any engine are answered. Nothing checks these rules, which the caller keeps:
  * - No pointer is null, also where the size is 0.
  * - A pointer has at least as many readable bytes or numbers, for outputs and buffers writable ones, behind it as its
- *   size says, and all of them were written once; so was every member of an engine, also where it is free. Numbers and
- *   engines are aligned as C has them.
+ *   size says, and all of them were written once; so was every member of an engine, also where it is free. A pointer to
+ *   an engine has a writable one behind it. Numbers and engines are aligned as C has them.
  * - Nothing that a call is given overlaps anything else that it is given.
- * - No other thread writes to any of it, or reads an output or a buffer, during the call.
+ * - No other thread writes to any of it, or reads an output, a buffer or the engine behind a pointer, during the call.
  * - A bool is 0 or 1, which is C's own rule for it.
  * - The stack has 256 KiB to spare.
  */
@@ -162,7 +162,7 @@ typedef struct nauvelppi_core {
 } nauvelppi_core;
 
 /* The command stream between two calls. At most one of these is begun: the commands of a packed word, its dummy, a port
- * command. The commands, as bytes in hexadecimal, by how many parameters they take; any other byte is no command:
+ * command. By how many parameters they take, the commands are these bytes, in hexadecimal, and no others:
  *    0  11, 15, 41
  *    1  10, 12, 13, 14, 20, 21, 22, 24 to 2B, 30 to 33, 40, 50, 60, 72
  *    2  23, 71
@@ -173,8 +173,8 @@ typedef struct nauvelppi_core {
  *   32  34
  *
  * queue: the rest of the packed command word, its next command the lowest byte. No hole: no byte that is no command is
- *   below one that is. The bytes above the last command, all four where there is none, can be any that are no command,
- *   0 for one, and are free.
+ *   below one that is. The bytes above the last command, all four where there is none, are free among those that are
+ *   no command, such as 0.
  * held: the parameters so far of the next command of the queue or, with none in the queue, of the port command. Those
  *   past the count are free.
  * count: how many are held: fewer than that command takes, and 0 where there is no such command. So the next command of
