@@ -1,12 +1,14 @@
 /* The packer, the unpacker and the engine for C, as crates/bridge/src/lib.rt exports them. Link
- * target/staticlib/libbridge.a, which `rt staticlib bridge` builds. Nothing checks this header against that source.
+ * target/staticlib/libbridge.a, which `rt staticlib bridge` builds. No proof speaks of this header; checks/c/layout.c
+ * compares its structs with those of the library, member by member.
  *
  * Any bytes, any sizes and any engine are answered. Nothing checks these rules, which the caller keeps:
  * - No pointer is null, also where the size is 0.
  * - A pointer has at least as many readable bytes or numbers, for outputs and buffers writable ones, behind it as its
- *   size says, and all of them were written once; so was every member of an engine. Numbers are aligned as C has them.
+ *   size says, and all of them were written once; so was every member of an engine, also where it is free. A pointer to
+ *   an engine has a writable one behind it. Numbers and engines are aligned as C has them.
  * - Nothing that a call is given overlaps anything else that it is given.
- * - No other thread writes to any of it, or reads an output or a buffer, during the call.
+ * - No other thread writes to any of it, or reads an output, a buffer or the engine behind a pointer, during the call.
  * - A bool is 0 or 1, which is C's own rule for it.
  * - The stack has 256 KiB to spare.
  */
@@ -57,26 +59,35 @@ nauvelppi_answer nauvelppi_unpack(const uint8_t *list, size_t list_size, uint8_t
 
 /* ---- The engine
  *
- * The engine is a plain record, which the caller keeps, copies and reads as it likes. A call takes it by value and
- * answers with the engine after the call. Free: what a comment below calls so can have any value, and no call looks at
- * it; it can also differ after an accepted call. */
+ * The engine is a plain record, which the caller keeps, copies, reads and makes as it likes. Most calls take it by
+ * value and answer with the engine after the call; nauvelppi_word_in_place works on the caller's own.
+ *
+ * Sound: every call but a start tests first whether the engine is sound, and refuses it with 1 if it is not. An engine
+ * is sound if each member keeps the range and the rules that its struct's comment gives. A member for which none is
+ * given can have every value of its type. Nothing more is tested. The engine that a start answers is sound, and so is
+ * the engine after an accepted call.
+ *
+ * Free: no call looks at it, and it can differ after an accepted call. */
 
-/* Position and vector: the current matrices, and the level that their two stacks share, 0 to 31. A matrix is sixteen
- * numbers, row by row, 12 fraction bits: 4096 is 1.0. */
+/* Position and vector: the current matrices, and the level that their two stacks share. A matrix is sixteen numbers,
+ * row by row, 12 fraction bits: 4096 is 1.0.
+ * level: 0 to 31. */
 typedef struct nauvelppi_pair {
     int32_t position[16];
     int32_t vector[16];
     size_t level;
 } nauvelppi_pair;
 
-/* Projection or texture: the current matrix, and its stack of one slot; the level is 0 or 1. */
+/* Projection or texture: the current matrix, and its stack of one slot.
+ * level: 0 or 1. */
 typedef struct nauvelppi_single {
     int32_t matrix[16];
     int32_t slot[16];
     size_t level;
 } nauvelppi_single;
 
-/* mode: what 10h set, 0 to 3. error: the error flag of the stacks. */
+/* mode: what 10h set, 0 to 3: projection, position, position and vector, texture.
+ * error: the error flag of the stacks, 0 or 1. */
 typedef struct nauvelppi_transform {
     nauvelppi_pair pair;
     nauvelppi_single projection;
@@ -85,12 +96,6 @@ typedef struct nauvelppi_transform {
     bool error;
 } nauvelppi_transform;
 
-/* The stacks of position and vector, 31 slots each: slot k is the sixteen numbers from 16 * k on. */
-typedef struct nauvelppi_stacks {
-    int32_t positions[496];
-    int32_t vectors[496];
-} nauvelppi_stacks;
-
 /* The vertex position, 12 fraction bits. */
 typedef struct nauvelppi_coordinates {
     int16_t x;
@@ -98,21 +103,18 @@ typedef struct nauvelppi_coordinates {
     int16_t z;
 } nauvelppi_coordinates;
 
-typedef struct nauvelppi_counts {
-    size_t vertices;
-    size_t polygons;
-} nauvelppi_counts;
-
-/* list: the list that 40h opened.
+/* The open list, and the vertices that wait for its next polygon. A vertex is five numbers: X, Y, Z, W, colour.
+ * list: 0 to 5, the list that 40h opened.
  *    0  closed
  *    1  triangles
  *    2  quads
  *    3  triangle strip whose next k is even
  *    4  triangle strip whose next k is odd
  *    5  quad strip
- *   Any other number is no list, and the engine is not sound.
- * count: how many vertices wait for the next polygon: `first`, `second`, `third`, in this order. Those past the count
- *   are free. A vertex is five numbers: X, Y, Z, W, colour. */
+ * first, second, third: as many of them wait as `count` says, in this order. The colour of one that waits is 0 to
+ *   32,767. Those past the count are free.
+ * count: fewer than a polygon of the list takes, none in a closed list: 0 for list 0; 0 to 2 for lists 1, 3 and 4;
+ *   0 to 3 for lists 2 and 5. */
 typedef struct nauvelppi_waiting {
     uint32_t list;
     int32_t first[5];
@@ -121,12 +123,21 @@ typedef struct nauvelppi_waiting {
     size_t count;
 } nauvelppi_waiting;
 
-/* given: the attributes last given by 29h; attributes: those in force. used: how many vertices and polygons the
- * buffers hold; rooms: how many they may hold. overflow: a polygon was dropped. */
+typedef struct nauvelppi_counts {
+    size_t vertices;
+    size_t polygons;
+} nauvelppi_counts;
+
+/* given: the attributes last given by 29h.
+ * attributes: those in force.
+ * colour: what 20h set, 0 to 32,767.
+ * used: how many vertices and polygons the buffers hold, each 0 to its room.
+ * rooms: how many they may hold, 1 to 6,144 vertices and 1 to 2,048 polygons.
+ * overflow: a polygon was dropped, 0 or 1. */
 typedef struct nauvelppi_geometry {
-    uint32_t colour;
     uint32_t given;
     uint32_t attributes;
+    uint32_t colour;
     nauvelppi_coordinates position;
     nauvelppi_waiting waiting;
     nauvelppi_counts used;
@@ -134,10 +145,43 @@ typedef struct nauvelppi_geometry {
     bool overflow;
 } nauvelppi_geometry;
 
-/* The command stream between two calls. queue: the rest of the packed command word, its next command lowest; bytes
- * above its last command are free. held: the parameters so far of that command, or of the port command begun: the
- * first `count` of 32; those past the count are free. dummy: the dummy word is due. port: the port command begun, 0
- * for none. */
+typedef struct nauvelppi_registers {
+    nauvelppi_transform transform;
+    nauvelppi_geometry geometry;
+} nauvelppi_registers;
+
+/* The stacks of position and vector, 31 slots each: slot k is the sixteen numbers from 16 * k on. */
+typedef struct nauvelppi_stacks {
+    int32_t positions[496];
+    int32_t vectors[496];
+} nauvelppi_stacks;
+
+typedef struct nauvelppi_core {
+    nauvelppi_registers registers;
+    nauvelppi_stacks stacks;
+} nauvelppi_core;
+
+/* The command stream between two calls. At most one of these is begun: the commands of a packed word, its dummy, a port
+ * command. By how many parameters they take, the commands are these bytes, in hexadecimal, and no others:
+ *    0  11, 15, 41
+ *    1  10, 12, 13, 14, 20, 21, 22, 24 to 2B, 30 to 33, 40, 50, 60, 72
+ *    2  23, 71
+ *    3  1B, 1C, 70
+ *    9  1A
+ *   12  17, 19
+ *   16  16, 18
+ *   32  34
+ *
+ * queue: the rest of the packed command word, its next command the lowest byte. No hole: no byte that is no command is
+ *   below one that is. The bytes above the last command, all four where there is none, are free among those that are
+ *   no command, such as 0.
+ * held: the parameters so far of the next command of the queue or, with none in the queue, of the port command. Those
+ *   past the count are free.
+ * count: how many are held: fewer than that command takes, and 0 where there is no such command. So the next command of
+ *   the queue takes parameters.
+ * dummy: the dummy word is due, 0 or 1; 0 where a command is in the queue.
+ * port: the port command begun, a command that takes parameters, or 0 for none; 0 where a command is in the queue or
+ *   the dummy is due. */
 typedef struct nauvelppi_stream {
     uint32_t queue;
     uint32_t held[32];
@@ -147,15 +191,13 @@ typedef struct nauvelppi_stream {
 } nauvelppi_stream;
 
 typedef struct nauvelppi_engine {
-    nauvelppi_transform transform;
-    nauvelppi_geometry geometry;
-    nauvelppi_stacks stacks;
+    nauvelppi_core core;
     nauvelppi_stream stream;
 } nauvelppi_engine;
 
 /* number: 0 where the call was accepted, else why it was refused. Where more than one falls, the order is that of the
  * functions' comments below.
- *    1  engine not sound: a number out of its range, or parts that do not fit each other
+ *    1  engine not sound
  *    2  a buffer is shorter than its room: 5 numbers for each vertex, 3 for each polygon
  *    3  hole in a command word: a byte that is no command below one that is
  *    4  port write with a packed word unfinished, or packed word with a port command unfinished
@@ -164,7 +206,8 @@ typedef struct nauvelppi_engine {
  *   11  room out of range
  * place: 0.
  * engine: the engine after the call. A refused call hands back the engine that it was given, every number and flag of
- *   it, and leaves both buffers as they were. Padding between the members is not kept: compare members. */
+ *   it, also the free ones, and leaves both buffers as they were. Padding between the members is not kept: compare
+ *   members. */
 typedef struct nauvelppi_engine_answer {
     uint32_t number;
     uint32_t place;
@@ -195,9 +238,61 @@ typedef struct nauvelppi_call_answer {
     uint32_t place;
 } nauvelppi_call_answer;
 
-/* nauvelppi_word on the caller's own engine, which becomes the engine after the call. */
+/* nauvelppi_word on the caller's own engine, which becomes the engine after the call: 1, 2, 4, 3. A refused call leaves
+ * every number and flag of it, and both buffers, as they were. */
 nauvelppi_call_answer nauvelppi_word_in_place(nauvelppi_engine *engine, uint32_t word, int32_t *vertices,
                                               size_t vertices_length, uint32_t *polygons, size_t polygons_length);
+
+/* ---- What is read and cleared between calls
+ *
+ * Also while a command is begun. These refuse with 1 only. number and place are as above. */
+
+/* status: 0 on a refusal. */
+typedef struct nauvelppi_status_answer {
+    uint32_t number;
+    uint32_t place;
+    uint32_t status;
+} nauvelppi_status_answer;
+
+/* The status word (GXSTAT): bits 8-12 the level of position and vector, bit 13 the projection level, bit 15 the error
+ * flag, all other bits 0. */
+nauvelppi_status_answer nauvelppi_status(nauvelppi_engine engine);
+
+/* matrix: sixteen zeros on a refusal. */
+typedef struct nauvelppi_matrix_answer {
+    uint32_t number;
+    uint32_t place;
+    int32_t matrix[16];
+} nauvelppi_matrix_answer;
+
+/* The clip matrix (CLIPMTX_RESULT): position times projection. */
+nauvelppi_matrix_answer nauvelppi_clip_matrix(nauvelppi_engine engine);
+
+/* corner: three rows of three numbers; nine zeros on a refusal. */
+typedef struct nauvelppi_corner_answer {
+    uint32_t number;
+    uint32_t place;
+    int32_t corner[9];
+} nauvelppi_corner_answer;
+
+/* The 3x3 corner of the vector matrix (VECMTX_RESULT): the first three numbers of each of its first three rows. */
+nauvelppi_corner_answer nauvelppi_vector_matrix(nauvelppi_engine engine);
+
+/* flag: 0 on a refusal. */
+typedef struct nauvelppi_flag_answer {
+    uint32_t number;
+    uint32_t place;
+    bool flag;
+} nauvelppi_flag_answer;
+
+/* The overflow flag (DISP3DCNT bit 13). */
+nauvelppi_flag_answer nauvelppi_overflow(nauvelppi_engine engine);
+
+/* The engine with the error flag cleared and the projection level at 0, all else as it was. */
+nauvelppi_engine_answer nauvelppi_clear_error(nauvelppi_engine engine);
+
+/* The engine with the overflow flag cleared, all else as it was. */
+nauvelppi_engine_answer nauvelppi_clear_overflow(nauvelppi_engine engine);
 
 #ifdef __cplusplus
 }

@@ -1,25 +1,11 @@
-/* Calls both functions of bindings/c/nauvelppi.h on good and bad input, and compares each answer, and every byte of the
- * output, with what they must be. Prints how many checks passed; a check that fails is a non-zero exit. */
-#include <stdio.h>
-#include <stdlib.h>
-#include <string.h>
-
-#include "../../bindings/c/nauvelppi.h"
+/* Calls packer and unpacker of bindings/c/nauvelppi.h on good and bad input, and compares each answer, and every byte
+ * of the output, with what they must be. Prints how many checks passed; a check that fails is a non-zero exit. */
+#define PROGRAM "bridge"
+#include "check.h"
 
 enum { LONGEST_LIST = 8192, LONGEST_LOG = 32768, ROOM = 4 * LONGEST_LOG + 64 };
 
 typedef nauvelppi_answer call(const uint8_t *, size_t, uint8_t *, size_t);
-
-static unsigned passed;
-
-static void check(int holds, const char *name, const char *what)
-{
-    if (!holds) {
-        printf("bridge: %s: %s\n", name, what);
-        exit(1);
-    }
-    passed++;
-}
 
 static void put_words(uint8_t *bytes, const uint32_t *words, size_t count)
 {
@@ -65,9 +51,6 @@ static void refused(const char *name, call *made, const uint32_t *input, size_t 
 {
     on_words(name, made, input, input_count, capacity, number, place, NULL, 0);
 }
-
-#define COUNT(a) (sizeof(a) / sizeof((a)[0]))
-#define PORT(byte) (0x04000400u + 4u * (byte))
 
 static uint32_t many[LONGEST_LOG], made_of_many[LONGEST_LOG];
 
@@ -213,10 +196,8 @@ static void round_trips(void)
 
 int main(void)
 {
-    check(sizeof(nauvelppi_answer) == 12, "the answer", "another size");
     unpack_checks();
     pack_checks();
     round_trips();
-    printf("bridge: %u checks passed\n", passed);
-    return 0;
+    return all_passed();
 }

@@ -1,38 +1,11 @@
-/* Calls the engine of bindings/c/nauvelppi.h: a list word by word, the same commands as port writes, and each refusal.
- * What must come out is worked out by hand from the rules and stands here as numbers. Prints how many checks passed; a
- * check that fails is a non-zero exit. */
-#include <stdio.h>
-#include <stdlib.h>
-#include <string.h>
-
-#include "../../bindings/c/nauvelppi.h"
-
-_Static_assert(sizeof(nauvelppi_pair) == 136 && sizeof(nauvelppi_single) == 136, "matrices and a level");
-_Static_assert(offsetof(nauvelppi_transform, mode) == 408 && sizeof(nauvelppi_transform) == 416, "transform");
-_Static_assert(offsetof(nauvelppi_waiting, count) == 64 && sizeof(nauvelppi_waiting) == 72, "waiting");
-_Static_assert(offsetof(nauvelppi_geometry, waiting) == 24 && offsetof(nauvelppi_geometry, used) == 96, "geometry");
-_Static_assert(offsetof(nauvelppi_geometry, overflow) == 128 && sizeof(nauvelppi_geometry) == 136, "geometry");
-_Static_assert(offsetof(nauvelppi_stream, count) == 136 && offsetof(nauvelppi_stream, port) == 145, "stream");
-_Static_assert(offsetof(nauvelppi_engine, geometry) == 416 && offsetof(nauvelppi_engine, stacks) == 552, "engine");
-_Static_assert(offsetof(nauvelppi_engine, stream) == 4520 && sizeof(nauvelppi_engine) == 4672, "engine");
-_Static_assert(offsetof(nauvelppi_engine_answer, engine) == 8 && sizeof(nauvelppi_engine_answer) == 4680, "answer");
+/* Calls the engine of bindings/c/nauvelppi.h: a list word by word, the same commands as port writes, and the refusals
+ * of a sound engine. Every word is given both by value and in place. What must come out is worked out by hand from the
+ * rules and stands here as numbers. Prints how many checks passed; a check that fails is a non-zero exit. */
+#define PROGRAM "engine"
+#include "engines.h"
 
 /* The rooms are what the list below fills, to the last vertex and polygon; the buffers have one more of each. */
 enum { VERTICES = 10, POLYGONS = 3, VERTEX_NUMBERS = 5 * (VERTICES + 1), POLYGON_NUMBERS = 3 * (POLYGONS + 1) };
-
-#define COUNT(a) (sizeof(a) / sizeof((a)[0]))
-#define PORT(byte) (0x04000400u + 4u * (byte))
-
-static unsigned passed;
-
-static void check(int holds, const char *name, const char *what)
-{
-    if (!holds) {
-        printf("engine: %s: %s\n", name, what);
-        exit(1);
-    }
-    passed++;
-}
 
 static int32_t vertices[VERTEX_NUMBERS], vertices_before[VERTEX_NUMBERS];
 static uint32_t polygons[POLYGON_NUMBERS], polygons_before[POLYGON_NUMBERS];
@@ -47,6 +20,12 @@ static uint32_t polygon_filler(size_t i)
     return 0xc0de0000u + (uint32_t)i;
 }
 
+static void keep_buffers(void)
+{
+    memcpy(vertices_before, vertices, sizeof vertices);
+    memcpy(polygons_before, polygons, sizeof polygons);
+}
+
 static void fill_buffers(void)
 {
     for (size_t i = 0; i < VERTEX_NUMBERS; i++)
@@ -55,75 +34,7 @@ static void fill_buffers(void)
         polygons[i] = polygon_filler(i);
 }
 
-/* ---- Equal engines, member by member: padding has no value */
-
-#define SAME(member) (a->member == b->member)
-#define SAME_NUMBERS(member) (memcmp(a->member, b->member, sizeof(a->member)) == 0)
-
-static int same_transform(const nauvelppi_transform *a, const nauvelppi_transform *b)
-{
-    return SAME_NUMBERS(pair.position) && SAME_NUMBERS(pair.vector) && SAME(pair.level)
-        && SAME_NUMBERS(projection.matrix) && SAME_NUMBERS(projection.slot) && SAME(projection.level)
-        && SAME_NUMBERS(texture.matrix) && SAME_NUMBERS(texture.slot) && SAME(texture.level) && SAME(mode)
-        && SAME(error);
-}
-
-/* All but the vertices that wait. */
-static int same_geometry(const nauvelppi_geometry *a, const nauvelppi_geometry *b)
-{
-    return SAME(colour) && SAME(given) && SAME(attributes) && SAME(position.x) && SAME(position.y)
-        && SAME(position.z) && SAME(waiting.list) && SAME(waiting.count) && SAME(used.vertices)
-        && SAME(used.polygons) && SAME(rooms.vertices) && SAME(rooms.polygons) && SAME(overflow);
-}
-
-static int same_waiting(const nauvelppi_waiting *a, const nauvelppi_waiting *b, size_t count)
-{
-    return (count < 1 || SAME_NUMBERS(first)) && (count < 2 || SAME_NUMBERS(second))
-        && (count < 3 || SAME_NUMBERS(third));
-}
-
-static int same_stacks(const nauvelppi_stacks *a, const nauvelppi_stacks *b)
-{
-    return SAME_NUMBERS(positions) && SAME_NUMBERS(vectors);
-}
-
-static int same_stream(const nauvelppi_stream *a, const nauvelppi_stream *b)
-{
-    return SAME(queue) && SAME_NUMBERS(held) && SAME(count) && SAME(dummy) && SAME(port);
-}
-
-/* Every number and flag, the free ones too. */
-static int same_cells(const nauvelppi_engine *a, const nauvelppi_engine *b)
-{
-    return same_transform(&a->transform, &b->transform) && same_geometry(&a->geometry, &b->geometry)
-        && same_waiting(&a->geometry.waiting, &b->geometry.waiting, 3) && same_stacks(&a->stacks, &b->stacks)
-        && same_stream(&a->stream, &b->stream);
-}
-
-/* All that the commands act on; the vertices past the count are free. */
-static int same_core(const nauvelppi_engine *a, const nauvelppi_engine *b)
-{
-    return same_transform(&a->transform, &b->transform) && same_geometry(&a->geometry, &b->geometry)
-        && same_waiting(&a->geometry.waiting, &b->geometry.waiting, a->geometry.waiting.count)
-        && same_stacks(&a->stacks, &b->stacks);
-}
-
 /* ---- Start */
-
-static const int32_t unit[16] = {4096, 0, 0, 0, 0, 4096, 0, 0, 0, 0, 4096, 0, 0, 0, 0, 4096};
-
-static nauvelppi_engine fresh(size_t vertex_room, size_t polygon_room)
-{
-    nauvelppi_engine e;
-    memset(&e, 0, sizeof e);
-    memcpy(e.transform.pair.position, unit, sizeof unit);
-    memcpy(e.transform.pair.vector, unit, sizeof unit);
-    memcpy(e.transform.projection.matrix, unit, sizeof unit);
-    memcpy(e.transform.texture.matrix, unit, sizeof unit);
-    e.geometry.rooms.vertices = vertex_room;
-    e.geometry.rooms.polygons = polygon_room;
-    return e;
-}
 
 static void started(const char *name, size_t vertex_room, size_t polygon_room, uint32_t number)
 {
@@ -216,24 +127,42 @@ static void buffers_hold(const char *name, size_t vertex_count, size_t polygon_c
               "another polygon");
 }
 
-static void used(const char *name, const nauvelppi_engine *e, size_t vertex_count, size_t polygon_count)
+static void used(const char *name, const nauvelppi_geometry *g, size_t vertex_count, size_t polygon_count)
 {
-    check(e->geometry.used.vertices == vertex_count, name, "another count of vertices");
-    check(e->geometry.used.polygons == polygon_count, name, "another count of polygons");
+    check(g->used.vertices == vertex_count, name, "another count of vertices");
+    check(g->used.polygons == polygon_count, name, "another count of polygons");
 }
 
-static void waits(const char *name, const nauvelppi_engine *e, uint32_t kind, size_t count)
+static void waits(const char *name, const nauvelppi_geometry *g, uint32_t kind, size_t count)
 {
-    check(e->geometry.waiting.list == kind, name, "another list");
-    check(e->geometry.waiting.count == count, name, "another count of waiting vertices");
+    check(g->waiting.list == kind, name, "another list");
+    check(g->waiting.count == count, name, "another count of waiting vertices");
 }
 
 #define HOLDS(numbers, expected) (memcmp(numbers, expected, sizeof(expected)) == 0)
 
+/* The same word by value and in place, each with buffers that hold the same: both answer the same and leave the same
+ * engine and buffers. Of an engine that refuses, every number stays as it was; else free numbers can differ. */
+static nauvelppi_call_answer both_ways(const char *name, nauvelppi_engine *e, uint32_t word, size_t vertices_length,
+                                       size_t polygons_length)
+{
+    nauvelppi_engine given = *e;
+    keep_buffers();
+    nauvelppi_engine_answer r =
+        nauvelppi_word(*e, word, vertices_before, vertices_length, polygons_before, polygons_length);
+    check(same_cells(e, &given), name, "the engine that was passed by value is changed");
+    nauvelppi_call_answer s = nauvelppi_word_in_place(e, word, vertices, vertices_length, polygons, polygons_length);
+    check(s.number == r.number, name, "another number in place");
+    check(s.place == r.place, name, "another place in place");
+    check(r.number ? same_cells(e, &r.engine) : same_meaning(e, &r.engine), name, "another engine in place");
+    check(memcmp(vertices, vertices_before, sizeof vertices) == 0, name, "other vertices in place");
+    check(memcmp(polygons, polygons_before, sizeof polygons) == 0, name, "other polygons in place");
+    return s;
+}
+
 static void take(const char *name, nauvelppi_engine *e, uint32_t word)
 {
-    nauvelppi_call_answer r =
-        nauvelppi_word_in_place(e, word, vertices, VERTEX_NUMBERS, polygons, POLYGON_NUMBERS);
+    nauvelppi_call_answer r = both_ways(name, e, word, VERTEX_NUMBERS, POLYGON_NUMBERS);
     check(r.number == 0 && r.place == 0, name, "a word is refused");
 }
 
@@ -255,29 +184,31 @@ static void none_begun(const char *name, const nauvelppi_engine *e)
 
 static void on_the_way(const nauvelppi_engine *e, size_t taken)
 {
-    const nauvelppi_waiting *w = &e->geometry.waiting;
+    const nauvelppi_transform *t = &e->core.registers.transform;
+    const nauvelppi_geometry *g = &e->core.registers.geometry;
+    const nauvelppi_stacks *slots = &e->core.stacks;
+    const nauvelppi_waiting *w = &g->waiting;
     switch (taken) {
     case PUSHED:
-        check(e->transform.pair.level == 1, "list, pushed", "another level");
-        check(HOLDS(e->stacks.positions, moved) && HOLDS(e->stacks.vectors, moved), "list, pushed", "another slot");
+        check(t->pair.level == 1, "list, pushed", "another level");
+        check(HOLDS(slots->positions, moved) && HOLDS(slots->vectors, moved), "list, pushed", "another slot");
         break;
     case SCALED:
-        check(HOLDS(e->transform.pair.position, scaled), "list, scaled", "another position matrix");
-        check(HOLDS(e->transform.pair.vector, moved), "list, scaled", "another vector matrix");
+        check(HOLDS(t->pair.position, scaled), "list, scaled", "another position matrix");
+        check(HOLDS(t->pair.vector, moved), "list, scaled", "another vector matrix");
         break;
     case STRIP_OF_3:
-        used("list, a triangle", e, 3, 1);
-        waits("list, a triangle", e, 4, 2);
+        used("list, a triangle", g, 3, 1);
+        waits("list, a triangle", g, 4, 2);
         check(HOLDS(w->first, strip[1]) && HOLDS(w->second, strip[2]), "list, a triangle", "others wait");
-        check(e->geometry.attributes == FRONT, "list, a triangle", "other attributes");
+        check(g->attributes == FRONT, "list, a triangle", "other attributes");
         buffers_hold("list, a triangle", 3, 1);
         break;
     case STRIP_OF_4:
-        used("list, two triangles", e, 6, 2);
-        waits("list, two triangles", e, 3, 2);
+        used("list, two triangles", g, 6, 2);
+        waits("list, two triangles", g, 3, 2);
         check(HOLDS(w->first, strip[2]) && HOLDS(w->second, strip[3]), "list, two triangles", "others wait");
-        check(e->geometry.given == BACK && e->geometry.attributes == FRONT, "list, two triangles",
-              "other attributes");
+        check(g->given == BACK && g->attributes == FRONT, "list, two triangles", "other attributes");
         check(e->stream.dummy, "list, two triangles", "no dummy is due");
         break;
     case STRIP_ENDED:
@@ -289,20 +220,22 @@ static void on_the_way(const nauvelppi_engine *e, size_t taken)
 static void ended(const char *name, const nauvelppi_engine *e)
 {
     nauvelppi_engine expected = fresh(VERTICES, POLYGONS);
-    memcpy(expected.transform.pair.position, moved, sizeof moved);
-    memcpy(expected.transform.pair.vector, moved, sizeof moved);
-    memcpy(expected.transform.projection.matrix, projection, sizeof projection);
-    expected.transform.mode = 2;
+    nauvelppi_transform *t = &expected.core.registers.transform;
+    nauvelppi_geometry *g = &expected.core.registers.geometry;
+    memcpy(t->pair.position, moved, sizeof moved);
+    memcpy(t->pair.vector, moved, sizeof moved);
+    memcpy(t->projection.matrix, projection, sizeof projection);
+    t->mode = 2;
     for (size_t slot = 0; slot <= 30; slot += 30) {
-        memcpy(expected.stacks.positions + 16 * slot, moved, sizeof moved);
-        memcpy(expected.stacks.vectors + 16 * slot, moved, sizeof moved);
+        memcpy(expected.core.stacks.positions + 16 * slot, moved, sizeof moved);
+        memcpy(expected.core.stacks.vectors + 16 * slot, moved, sizeof moved);
     }
-    expected.geometry.colour = 0x123;
-    expected.geometry.given = BACK;
-    expected.geometry.attributes = BACK;
-    expected.geometry.waiting.list = 2;
-    expected.geometry.used.vertices = VERTICES;
-    expected.geometry.used.polygons = POLYGONS;
+    g->colour = 0x123;
+    g->given = BACK;
+    g->attributes = BACK;
+    g->waiting.list = 2;
+    g->used.vertices = VERTICES;
+    g->used.polygons = POLYGONS;
     check(same_core(e, &expected), name, "another engine");
     none_begun(name, e);
     buffers_hold(name, VERTICES, POLYGONS);
@@ -315,9 +248,9 @@ static void flags(nauvelppi_engine *e)
     nauvelppi_engine expected = *e;
     for (size_t i = 0; i < COUNT(more); i++)
         take("list, one polygon more", e, more[i]);
-    expected.geometry.waiting.list = 1;
-    expected.geometry.overflow = true;
-    expected.transform.error = true;
+    expected.core.registers.geometry.waiting.list = 1;
+    expected.core.registers.geometry.overflow = true;
+    expected.core.registers.transform.error = true;
     check(same_core(e, &expected), "list, one polygon more", "another engine");
     buffers_hold("list, one polygon more", VERTICES, POLYGONS);
 }
@@ -341,28 +274,9 @@ static void list_checks(void)
     flags(&by_words);
 }
 
-/* A word by value: the engine that was passed is as it was, and the answer has the other one. */
-static void by_value(void)
-{
-    nauvelppi_engine e = nauvelppi_start(VERTICES, POLYGONS).engine, before = e;
-    fill_buffers();
-    nauvelppi_engine_answer r =
-        nauvelppi_word(e, 0x00000020, vertices, VERTEX_NUMBERS, polygons, POLYGON_NUMBERS);
-    check(r.number == 0 && same_cells(&e, &before), "by value", "the engine that was passed is changed");
-    r = nauvelppi_word(r.engine, 0x7abc, vertices, VERTEX_NUMBERS, polygons, POLYGON_NUMBERS);
-    check(r.number == 0 && r.engine.geometry.colour == 0x7abc, "by value", "another colour");
-    buffers_hold("by value", 0, 0);
-}
-
 /* ---- Refusals */
 
 static nauvelppi_engine sound;
-
-static void keep_buffers(void)
-{
-    memcpy(vertices_before, vertices, sizeof vertices);
-    memcpy(polygons_before, polygons, sizeof polygons);
-}
 
 static void refusal(const char *name, const nauvelppi_engine_answer *r, const nauvelppi_engine *e, uint32_t number)
 {
@@ -380,8 +294,7 @@ static void refused_word(const char *name, const nauvelppi_engine *e, uint32_t w
     keep_buffers();
     nauvelppi_engine_answer r = nauvelppi_word(*e, word, vertices, vertices_length, polygons, polygons_length);
     refusal(name, &r, e, number);
-    nauvelppi_call_answer s =
-        nauvelppi_word_in_place(&in_place, word, vertices, vertices_length, polygons, polygons_length);
+    nauvelppi_call_answer s = both_ways(name, &in_place, word, vertices_length, polygons_length);
     check(s.number == number && s.place == 0 && same_cells(&in_place, e), name, "another answer in place");
 }
 
@@ -392,56 +305,6 @@ static void refused_write(const char *name, const nauvelppi_engine *e, uint32_t 
     nauvelppi_engine_answer r =
         nauvelppi_port_write(*e, address, 5, vertices, vertices_length, polygons, polygons_length);
     refusal(name, &r, e, number);
-}
-
-/* Both calls refuse it with 1, before anything else: short buffers, a hole, an address that is no port. */
-static void not_sound(const char *name, const nauvelppi_engine *e)
-{
-    refused_word(name, e, 0x00000020, VERTEX_NUMBERS, POLYGON_NUMBERS, 1);
-    refused_word(name, e, 0x00110015, 0, 0, 1);
-    refused_write(name, e, PORT(0x20), VERTEX_NUMBERS, POLYGON_NUMBERS, 1);
-    refused_write(name, e, PORT(0x73), 0, 0, 1);
-}
-
-static void unsound_checks(void)
-{
-    nauvelppi_engine e = sound;
-    e.transform.pair.level = 32;
-    not_sound("level 32", &e);
-    e = sound;
-    e.transform.mode = 4;
-    not_sound("mode 4", &e);
-    e = sound;
-    e.geometry.waiting.list = 6;
-    not_sound("list 6", &e);
-    e.geometry.waiting.list = UINT32_MAX;
-    e.geometry.waiting.count = SIZE_MAX;
-    not_sound("list 4294967295", &e);
-    e = sound;
-    e.geometry.waiting.list = 0;
-    e.geometry.waiting.count = 1;
-    not_sound("a vertex waits in a closed list", &e);
-    e = sound;
-    e.geometry.used.vertices = VERTICES + 1;
-    not_sound("more used than the room", &e);
-    e = sound;
-    e.stream.queue = 0x00100020;
-    not_sound("a hole in the queue", &e);
-    e = sound;
-    e.stream.port = 0x73;
-    not_sound("an unknown command at the port", &e);
-}
-
-/* Numbers 0 to 5 are lists; with each of them a word is taken, and the list stays as it was. */
-static void all_lists(void)
-{
-    for (uint32_t kind = 0; kind < 6; kind++) {
-        nauvelppi_engine e = sound;
-        e.geometry.waiting.list = kind;
-        e.geometry.waiting.count = 0;
-        take("every list", &e, 0);
-        check(e.geometry.waiting.list == kind, "every list", "another list");
-    }
 }
 
 static void short_buffers(void)
@@ -478,12 +341,13 @@ static void begun_checks(void)
 
     /* what was begun goes on; a parameter is no command word */
     take("a packed word ended", &packed, 0x00110015);
-    check(packed.geometry.position.z == 0x15, "a packed word ended", "another Z");
+    const nauvelppi_coordinates *by_words = &packed.core.registers.geometry.position;
+    check(by_words->z == 0x15, "a packed word ended", "another Z");
     none_begun("a packed word ended", &packed);
     take_write("a port command ended", &port, PORT(0x23), 0x5555);
-    check(port.geometry.position.x == 0x4444 && port.geometry.position.y == 0x3333
-              && port.geometry.position.z == 0x5555,
-          "a port command ended", "another position");
+    const nauvelppi_coordinates *at_port = &port.core.registers.geometry.position;
+    check(at_port->x == 0x4444 && at_port->y == 0x3333 && at_port->z == 0x5555, "a port command ended",
+          "another position");
     none_begun("a port command ended", &port);
 }
 
@@ -495,13 +359,11 @@ static void refusal_checks(void)
     for (size_t i = 0; i < STRIP_ENDED; i++)
         take("before the refusals", &sound, list[i]);
     for (size_t i = 0; i < 5; i++)
-        sound.geometry.waiting.third[i] = -(int32_t)i - 1000000;
+        sound.core.registers.geometry.waiting.third[i] = -(int32_t)i - 1000000;
     for (size_t i = 0; i < 32; i++)
         sound.stream.held[i] = 0xfee00000u + (uint32_t)i;
-    waits("before the refusals", &sound, 3, 2);
+    waits("before the refusals", &sound.core.registers.geometry, 3, 2);
 
-    unsound_checks();
-    all_lists();
     short_buffers();
     refused_word("a hole", &sound, 0x00110015, VERTEX_NUMBERS, POLYGON_NUMBERS, 3);
     refused_word("an unknown byte below a command", &sound, 0x00001099, VERTEX_NUMBERS, POLYGON_NUMBERS, 3);
@@ -515,8 +377,6 @@ int main(void)
 {
     start_checks();
     list_checks();
-    by_value();
     refusal_checks();
-    printf("engine: %u checks passed\n", passed);
-    return 0;
+    return all_passed();
 }

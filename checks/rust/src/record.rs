@@ -1,4 +1,4 @@
-//! The engine record as C has it, with any numbers in it, and the record of an engine. `sound` reads it back.
+//! The engine record as the product has it, with any numbers in it, and the record of an engine. `sound` reads it back.
 
 use crate::engine::Engine;
 use crate::geometry::{self, List, Vertex};
@@ -66,14 +66,21 @@ pub struct Waiting {
 #[repr(C)]
 #[derive(Clone, Copy, Debug, PartialEq, Eq)]
 pub struct Geometry {
-    pub colour: u32,
     pub given: u32,
     pub attributes: u32,
+    pub colour: u32,
     pub position: Coordinates,
     pub waiting: Waiting,
     pub used: Counts,
     pub rooms: Counts,
     pub overflow: bool,
+}
+
+#[repr(C)]
+#[derive(Clone, Copy, Debug, PartialEq, Eq)]
+pub struct Registers {
+    pub transform: Transform,
+    pub geometry: Geometry,
 }
 
 /// Slot k is the sixteen numbers from 16k on.
@@ -82,6 +89,13 @@ pub struct Geometry {
 pub struct Stacks {
     pub positions: [i32; STACK_NUMBERS],
     pub vectors: [i32; STACK_NUMBERS],
+}
+
+#[repr(C)]
+#[derive(Clone, Copy, Debug, PartialEq, Eq)]
+pub struct Core {
+    pub registers: Registers,
+    pub stacks: Stacks,
 }
 
 /// The rest of the command word, its next command lowest; the parameters so far, the first `count`; whether the dummy
@@ -100,9 +114,7 @@ pub struct Stream {
 #[repr(C)]
 #[derive(Clone, Copy, Debug, PartialEq, Eq)]
 pub struct Record {
-    pub transform: Transform,
-    pub geometry: Geometry,
-    pub stacks: Stacks,
+    pub core: Core,
     pub stream: Stream,
 }
 
@@ -110,7 +122,7 @@ impl Record {
     /// The record with 0 in every cell that is free: two sound records mean the same where these are equal.
     pub fn meaning(&self) -> Record {
         let mut record = *self;
-        let waiting = &mut record.geometry.waiting;
+        let waiting = &mut record.core.registers.geometry.waiting;
         let places = [&mut waiting.first, &mut waiting.second, &mut waiting.third];
         places.into_iter().skip(waiting.count).for_each(|vertex| *vertex = [0; 5]);
         let stream = &mut record.stream;
@@ -123,12 +135,10 @@ impl Record {
 impl From<&Engine> for Record {
     fn from(engine: &Engine) -> Self {
         let pair = &engine.transform.pair;
-        Record {
-            transform: Transform::from(&engine.transform),
-            geometry: Geometry::from(&engine.geometry),
-            stacks: Stacks { positions: numbers(&pair.positions), vectors: numbers(&pair.vectors) },
-            stream: Stream::from(&engine.stream),
-        }
+        let registers =
+            Registers { transform: Transform::from(&engine.transform), geometry: Geometry::from(&engine.geometry) };
+        let stacks = Stacks { positions: numbers(&pair.positions), vectors: numbers(&pair.vectors) };
+        Record { core: Core { registers, stacks }, stream: Stream::from(&engine.stream) }
     }
 }
 
@@ -168,9 +178,9 @@ impl From<&geometry::Geometry> for Geometry {
             List::QuadStrip => 5,
         };
         Geometry {
-            colour: geometry.colour,
             given: geometry.given,
             attributes: geometry.attributes,
+            colour: geometry.colour,
             position: Coordinates { x, y, z },
             waiting: Waiting { list, first, second, third, count: geometry.waiting_count },
             used: Counts::from(geometry.used),

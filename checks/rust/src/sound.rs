@@ -4,7 +4,7 @@
 use crate::engine::{in_range, Engine};
 use crate::geometry::{self, List, Vertex};
 use crate::matrix::Matrix;
-use crate::record::{Counts, Geometry, Record, Single, Stream, Waiting, STACK_NUMBERS};
+use crate::record::{Core, Counts, Geometry, Record, Single, Stream, Waiting, STACK_NUMBERS};
 use crate::refusal::Refusal;
 use crate::stream::{self, commands, Pending};
 use crate::table::parameters;
@@ -20,12 +20,15 @@ impl Record {
     }
 
     fn read(&self) -> Option<Engine> {
-        Some(Engine { transform: self.read_transform()?, geometry: self.geometry.read()?, stream: self.stream.read()? })
+        let geometry = self.core.registers.geometry.read()?;
+        Some(Engine { transform: self.core.read_transform()?, geometry, stream: self.stream.read()? })
     }
+}
 
+impl Core {
     /// Mode 0 to 3, S 0 to 31, the other two levels 0 or 1.
     fn read_transform(&self) -> Option<transform::Transform> {
-        let given = &self.transform;
+        let given = &self.registers.transform;
         if given.mode > 3 || given.pair.level > SLOTS {
             return None;
         }

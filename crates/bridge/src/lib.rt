@@ -9,12 +9,24 @@ ghost use Rattle.stream.specs.Command.{write};
 ghost use Rattle.stream.specs.Pack.{pack};
 ghost use Rattle.stream.specs.Unpack.{unpack};
 ghost use Rattle.state.specs.Fresh.{start};
+ghost use Rattle.registers.specs.Registers.{readStatus, readClipMatrix, readVectorMatrix, readOverflow};
+ghost use Rattle.registers.specs.Registers.{clearError, clearOverflow};
 ghost use Rattle.execute.specs.Call.{machineOf, replyOf, GivenBack, wordReply, portReply};
 ghost use Rattle.bridge.specs.InPlace.{inPlace};
 ghost use Rattle.bridge.specs.Bytes.{onAllBytes, StoresBytes};
 use engine::port_write;
 use engine::word;
 use packer::pack_bytes;
+use registers::CornerAnswer;
+use registers::FlagAnswer;
+use registers::MatrixAnswer;
+use registers::StatusAnswer;
+use registers::clear_error;
+use registers::clear_overflow;
+use registers::clip_matrix;
+use registers::overflow;
+use registers::status;
+use registers::vector_matrix;
 use state::Answer;
 use state::Engine;
 use stream::OutputAnswer;
@@ -137,4 +149,52 @@ pub extern "C" fn nauvelppi_word_in_place(
         number: r.number,
         place: r.place,
     }
+}
+
+// The status word, as `registers::status`.
+#[no_mangle]
+pub extern "C" fn nauvelppi_status(e: Engine) -> StatusAnswer
+    ensures { λ r. ⌜ r ≡ readStatus e ⌝ }
+{
+    status(e)
+}
+
+// The clip matrix, as `registers::clip_matrix`.
+#[no_mangle]
+pub extern "C" fn nauvelppi_clip_matrix(e: Engine) -> MatrixAnswer
+    ensures { λ r. ⌜ r ≡ readClipMatrix e ⌝ }
+{
+    clip_matrix(e)
+}
+
+// The 3x3 corner of the vector matrix, as `registers::vector_matrix`.
+#[no_mangle]
+pub extern "C" fn nauvelppi_vector_matrix(e: Engine) -> CornerAnswer
+    ensures { λ r. ⌜ r ≡ readVectorMatrix e ⌝ }
+{
+    vector_matrix(e)
+}
+
+// The overflow flag, as `registers::overflow`.
+#[no_mangle]
+pub extern "C" fn nauvelppi_overflow(e: Engine) -> FlagAnswer
+    ensures { λ r. ⌜ r ≡ readOverflow e ⌝ }
+{
+    overflow(e)
+}
+
+// The error flag is cleared, as `registers::clear_error`.
+#[no_mangle]
+pub extern "C" fn nauvelppi_clear_error(e: Engine) -> Answer
+    ensures { λ r. ⌜ r ≡ clearError e ⌝ }
+{
+    clear_error(e)
+}
+
+// The overflow flag is cleared, as `registers::clear_overflow`.
+#[no_mangle]
+pub extern "C" fn nauvelppi_clear_overflow(e: Engine) -> Answer
+    ensures { λ r. ⌜ r ≡ clearOverflow e ⌝ }
+{
+    clear_overflow(e)
 }

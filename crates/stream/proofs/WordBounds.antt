@@ -102,8 +102,7 @@ groups-below (group {cs = cs} {gs = gs} g n m r) w h =
     let whole = complete-parts g cs w in
     let parts = below-parts (2 ^ 32) (parametersOf g) (parametersOf cs)
     (subst (AllBelow (2 ^ 32)) (parameters-append g cs) h) in
-    below-append (2 ^ 32) (groupWords g) (allWords gs)
-    (
+    below-append (2 ^ 32) (groupWords g) (allWords gs) (
       queue-below g (whole .0) m,
       below-append (2 ^ 32) (parametersOf g) (dummyIf (endsWithNone false g)) (parts .0)
           (dummy-below (endsWithNone false g)),

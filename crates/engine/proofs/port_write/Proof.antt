@@ -23,8 +23,7 @@ returns : tie.Need-returns
 unfolding feedAs
 returns c =
     let a = c .before .before .before .before .before .before .before .before .before .args in
-    let call = c .before .before .before .feed-items in
-    (
+    let call = c .before .before .before .feed-items in (
       one-reply portStep (a .e) (a .vertices .now) (a .polygons .now) (write (a .address) (a .value)) _ (call .result) _ _ (call .ensures .0 .is)
           (call .ensures .1),
       one-given-back portStep (a .e) (a .vertices .now) (a .polygons .now) (write (a .address) (a .value)) _ (call .result) _ _

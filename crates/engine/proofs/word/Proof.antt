@@ -22,8 +22,7 @@ returns : tie.Need-returns
 unfolding feedAs
 returns c =
     let a = c .before .before .before .before .before .before .before .before .before .args in
-    let call = c .before .before .before .feed-items in
-    (
+    let call = c .before .before .before .feed-items in (
       one-reply wordStep (a .e) (a .vertices .now) (a .polygons .now) (a .w) _ (call .result) _ _ (call .ensures .0 .is)
           (call .ensures .1),
       one-given-back wordStep (a .e) (a .vertices .now) (a .polygons .now) (a .w) _ (call .result) _ _

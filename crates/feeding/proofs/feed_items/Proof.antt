@@ -17,8 +17,7 @@ answered-requires c κs = search needs
 returns : tie.Need-returns
 returns c =
     let s = c .before .before .before .before .before in
-    let a = s .args in
-    (
+    let a = s .args in (
       told-none (s .pre) (c .answered .result) (c .answered .ensures)
           (none-as (a .e) (a .vertices .now) (a .polygons .now) (a .words .now) (a .log)
           (sym (c .before .before .items-in .ensures) ∙ c .before .if1 .taken)),
@@ -39,8 +38,7 @@ returns-2 c =
     let s = c .before .before .before .before .before .before .before .before .before in
     let a = s .args in
     let items = c .before .before .before .before .before .before .items-in in
-    let some : 0 < items .result = omega (arith, c .before .before .before .before .before .if1 .left) in
-    (
+    let some : 0 < items .result = omega (arith, c .before .before .before .before .before .if1 .left) in (
       told-none (s .pre) (c .answered2 .result) (c .answered2 .ensures)
           (refused-as (a .e) (a .vertices .now) (a .polygons .now) (a .words .now) (a .log) (rw (items .ensures) at some)
           (c .before .before .first-number .result) (c .before .before .first-number .ensures)

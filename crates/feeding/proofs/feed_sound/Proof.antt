@@ -74,8 +74,7 @@ same-length-2 c = search needs
 returns : tie.Need-returns
 returns c =
     let call = c .before .before .before .before .before .before .before .before .before .run-turns in
-    let r = call .result in
-    (
+    let r = call .result in (
       told-as (whole-is (c .before .before .before .before .before .before .before .before .before .before .before .before .before
           .before .before .before .before .before .before .before)) (c .answered .result)
           (c .answered .ensures

@@ -421,21 +421,21 @@ returns c =
     let end = c .before .before .before .if1 .taken in
     record {
       is =
-        ap (λ (x : Stream). fed (r .next) (r .number) (machineOf (engineFrom (current s) (l .work .geometry) x)
-        (l .vertices) (l .polygons)))
-        (c .stream-of .ensures)
-        ∙ ap (λ (p : Pending). fed (r .next) (r .number) (machine t p))
-        (end-pending (r .begun) new (told .1 .2)
-        (end-fit e (a .vertices .now) (a .polygons .now) first (a .words .now) (l .i) (l .begun) (l .work .held) t r new
-        (a .log) (told .0))
-        (end-due e (a .vertices .now) (a .polygons .now) first (a .words .now) (l .i) (l .begun) (l .work .held) t r new
-        (a .log) (told .0) end)
-        _ refl)
-        ∙ ended-as e (a .vertices .now) (a .polygons .now) first (a .words .now) (l .i) (l .begun) (l .work .held) t r new
-        (a .log)
-        (l .inv .looping) (told .0) end
-        ∙ ap (λ (e : Engine). feedAs (a .log) (machineOf e (a .vertices .now) (a .polygons .now)) (a .words .now))
-        (begins-is (s .before .before));
+          ap (λ (x : Stream). fed (r .next) (r .number) (machineOf (engineFrom (current s) (l .work .geometry) x)
+          (l .vertices) (l .polygons)))
+          (c .stream-of .ensures)
+          ∙ ap (λ (p : Pending). fed (r .next) (r .number) (machine t p))
+          (end-pending (r .begun) new (told .1 .2)
+          (end-fit e (a .vertices .now) (a .polygons .now) first (a .words .now) (l .i) (l .begun) (l .work .held) t r new
+          (a .log) (told .0))
+          (end-due e (a .vertices .now) (a .polygons .now) first (a .words .now) (l .i) (l .begun) (l .work .held) t r new
+          (a .log) (told .0) end)
+          _ refl)
+          ∙ ended-as e (a .vertices .now) (a .polygons .now) first (a .words .now) (l .i) (l .begun) (l .work .held) t r new
+          (a .log)
+          (l .inv .looping) (told .0) end
+          ∙ ap (λ (e : Engine). feedAs (a .log) (machineOf e (a .vertices .now) (a .polygons .now)) (a .words .now))
+          (begins-is (s .before .before));
       given-back = λ n z.
           ap (engineFrom (current s) (l .work .geometry)) (c .stream-of .ensures)
           ∙ ended-untouched e (a .vertices .now) (a .polygons .now) first (a .words .now) (l .i) (l .begun)

@@ -1,13 +1,14 @@
 //! Times the compiled library and the reference in one run, on the same inputs, in one thread.
 
-mod by_value;
 mod feeding;
 mod inputs;
 mod lent;
+mod single;
 
+// `compare` uses more of these two.
+#[allow(dead_code)]
 #[path = "../compare/library.rs"]
 mod library;
-// `compare` uses more of these.
 #[allow(dead_code)]
 #[path = "../compare/random.rs"]
 mod random;
@@ -29,10 +30,9 @@ fn main() {
     println!("Nanoseconds a word, for writes a port write; the best of {ROUNDS} rounds; release builds, one thread.");
     println!("pack, unpack: 4,096 port writes and their packed list, bytes to bytes; outputs are not cleared.");
     println!("word, write: the library's call by value for each, against the reference's engine in place.");
-    println!("word, moved: the same, against the reference's engine moved into each call and out of it.");
-    println!(
-        "  For these three every turn starts an engine; the buffers are not cleared. The library's calls test the"
-    );
+    println!("word in place: the library's call on the caller's own record for each, against the same.");
+    println!("word, moved: as word, against the reference's engine moved into each call and out of it.");
+    println!("  For these four every turn starts an engine; the buffers are not cleared. The library's calls test the");
     println!("  record that they are given; the reference's engine is sound by its type.");
     println!(
         "feed: a whole list or log in one call on an engine that every turn starts; the buffers are not cleared. The"
@@ -42,7 +42,7 @@ fn main() {
     for sample in inputs::samples() {
         time_pack(&sample);
         time_unpack(&sample);
-        by_value::time(&sample);
+        single::time(&sample);
         feeding::time(&sample);
     }
 }

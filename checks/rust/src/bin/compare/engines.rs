@@ -1,5 +1,6 @@
 //! Cases of the engine calls: after every call number, place and record; both buffers entirely on a refusal and at
-//! the end. Of a piece of a list or a log that is fed in one call: number, how many were taken, record, both buffers.
+//! the end, and there also what can be read. Of a piece of a list or a log that is fed in one call: number, how many
+//! were taken, record, both buffers.
 
 use reference::engine::Engine;
 use reference::geometry::{MOST_POLYGONS, MOST_VERTICES};
@@ -14,7 +15,7 @@ use crate::lists::{random_list, random_log};
 use crate::random::Random;
 use crate::records::{self, FAULTS};
 use crate::tally::{self, Tally};
-use crate::twin::{different_lines, word_calls, write_calls, Call, Lent, Twin};
+use crate::twin::{different_lines, partly_in_place, word_calls, write_calls, Call, Flag, Lent, Twin};
 
 /// A start on both sides; the rooms in range or not.
 pub fn start_case(random: &mut Random, tally: &mut Tally) -> Result<(), String> {
@@ -56,17 +57,18 @@ fn twin(random: &mut Random, begun: bool) -> Result<Twin, String> {
     } else {
         records::sound(random, begun)
     };
-    let lent = Lent::for_rooms(random, record.geometry.rooms);
+    let lent = Lent::for_rooms(random, record.core.registers.geometry.rooms);
     Ok(Twin::new(record, lent))
 }
 
-/// A list fed word by word, whole or damaged.
+/// A list fed word by word, by value and in place, whole or damaged.
 pub fn words_case(random: &mut Random, tally: &mut Tally) -> Result<(), String> {
     let mut list = random_list(random);
     if random.one_in(3) {
         generate::damage_list(random, &mut list);
     }
-    twin(random, true)?.feed(&word_calls(&list), tally)
+    let calls = partly_in_place(random, word_calls(&list));
+    twin(random, true)?.feed(&calls, tally)
 }
 
 /// A log written pair by pair, whole or damaged.
@@ -89,6 +91,21 @@ pub fn mixture_case(random: &mut Random, tally: &mut Tally) -> Result<(), String
         let (piece, rest) = side.split_at(random.between(0, 8).min(side.len()));
         twin.feed(piece, tally)?;
         *side = rest;
+    }
+    Ok(())
+}
+
+/// A list or a log in pieces, also ending inside a command; after each a flag is cleared, and all is read again.
+pub fn clears_case(random: &mut Random, tally: &mut Tally) -> Result<(), String> {
+    let calls = if random.flag() { word_calls(&random_list(random)) } else { write_calls(&random_log(random)) };
+    let mut twin = twin(random, true)?;
+    let mut calls = calls.as_slice();
+    while !calls.is_empty() {
+        let (piece, rest) = calls.split_at(random.between(1, 24).min(calls.len()));
+        twin.feed(piece, tally)?;
+        twin.clear(random.pick(&[Flag::Error, Flag::Overflow]), tally)?;
+        twin.read(tally)?;
+        calls = rest;
     }
     Ok(())
 }
@@ -131,15 +148,17 @@ fn piece_size(random: &mut Random) -> usize {
 
 /// Any call, most likely refused.
 fn any_call(random: &mut Random) -> Call {
-    match random.below(4) {
+    match random.below(6) {
         0 => Call::Word(random.word()),
         1 => Call::Word(u32::from(generate::known_byte(random))),
-        2 => Call::Write(generate::wrong_address(random), generate::number(random)),
+        2 => Call::InPlace(random.word()),
+        3 => Call::InPlace(u32::from(generate::known_byte(random))),
+        4 => Call::Write(generate::wrong_address(random), generate::number(random)),
         _ => Call::Write(port(generate::known_byte(random)), generate::number(random)),
     }
 }
 
-/// Three calls, and three pieces with and without items, on an engine that refuses each call and item.
+/// Three calls and three pieces, with and without items, on an engine that refuses each; then reads and clears.
 fn refuses(random: &mut Random, mut twin: Twin, tally: &mut Tally) -> Result<(), String> {
     for _ in 0..3 {
         twin.call(any_call(random), tally)?;
@@ -149,13 +168,17 @@ fn refuses(random: &mut Random, mut twin: Twin, tally: &mut Tally) -> Result<(),
         let size = words.len() - random.below(2).min(words.len());
         twin.piece(log, &words[..size], tally)?;
     }
+    for flag in [Flag::Error, Flag::Overflow] {
+        twin.read(tally)?;
+        twin.clear(flag, tally)?;
+    }
     twin.compare_buffers()
 }
 
 /// A call's numbers as two words.
 fn any_words(random: &mut Random) -> [u32; 2] {
     match any_call(random) {
-        Call::Word(word) => [word, random.word()],
+        Call::Word(word) | Call::InPlace(word) => [word, random.word()],
         Call::Write(address, value) => [address, value],
     }
 }
@@ -165,7 +188,7 @@ pub fn unsound_case(random: &mut Random, tally: &mut Tally) -> Result<(), String
     let mut record = records::sound(random, true);
     let lent = match random.below(4) {
         0 => Lent::new(random, 0, 0),
-        _ => Lent::for_rooms(random, record.geometry.rooms),
+        _ => Lent::for_rooms(random, record.core.registers.geometry.rooms),
     };
     for _ in 0..random.pick(&[1, 1, 1, 2]) {
         random.pick(&FAULTS)(random, &mut record);
@@ -176,7 +199,7 @@ pub fn unsound_case(random: &mut Random, tally: &mut Tally) -> Result<(), String
 /// Buffers shorter than their rooms, refused with 2 whatever the call is.
 pub fn short_case(random: &mut Random, tally: &mut Tally) -> Result<(), String> {
     let record = records::sound(random, true);
-    let rooms = record.geometry.rooms;
+    let rooms = record.core.registers.geometry.rooms;
     let (vertices, polygons) = (5 * rooms.vertices, 3 * rooms.polygons);
     let mut less = |numbers: usize| if random.flag() { numbers - 1 } else { random.below(numbers) };
     let short = (less(vertices), less(polygons));

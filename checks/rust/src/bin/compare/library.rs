@@ -4,6 +4,7 @@
 //! Safe, because a slice has as many bytes or numbers as its size says, none is null, and no two of them overlap.
 
 use reference::geometry::Buffers;
+use reference::matrix::Matrix;
 use reference::record::Record;
 
 /// The answer of pack and unpack; the length is in words.
@@ -22,6 +23,46 @@ pub struct EngineAnswer {
     pub number: u32,
     pub place: u32,
     pub engine: Record,
+}
+
+/// The answer of the word call on the caller's own record.
+#[repr(C)]
+#[derive(Clone, Copy, Debug, PartialEq, Eq)]
+pub struct CallAnswer {
+    pub number: u32,
+    pub place: u32,
+}
+
+#[repr(C)]
+#[derive(Clone, Copy, Debug, PartialEq, Eq)]
+pub struct StatusAnswer {
+    pub number: u32,
+    pub place: u32,
+    pub status: u32,
+}
+
+#[repr(C)]
+#[derive(Clone, Copy, Debug, PartialEq, Eq)]
+pub struct MatrixAnswer {
+    pub number: u32,
+    pub place: u32,
+    pub matrix: Matrix,
+}
+
+#[repr(C)]
+#[derive(Clone, Copy, Debug, PartialEq, Eq)]
+pub struct CornerAnswer {
+    pub number: u32,
+    pub place: u32,
+    pub corner: [i32; 9],
+}
+
+#[repr(C)]
+#[derive(Clone, Copy, Debug, PartialEq, Eq)]
+pub struct FlagAnswer {
+    pub number: u32,
+    pub place: u32,
+    pub flag: bool,
 }
 
 /// The answer of a feed: the words or port writes that were taken, and the number of the first refusal.
@@ -55,6 +96,20 @@ extern "C" {
         polygons: *mut u32,
         polygon_numbers: usize,
     ) -> EngineAnswer;
+    fn nauvelppi_word_in_place(
+        engine: *mut Record,
+        word: u32,
+        vertices: *mut i32,
+        vertex_numbers: usize,
+        polygons: *mut u32,
+        polygon_numbers: usize,
+    ) -> CallAnswer;
+    fn nauvelppi_status(engine: Record) -> StatusAnswer;
+    fn nauvelppi_clip_matrix(engine: Record) -> MatrixAnswer;
+    fn nauvelppi_vector_matrix(engine: Record) -> CornerAnswer;
+    fn nauvelppi_overflow(engine: Record) -> FlagAnswer;
+    fn nauvelppi_clear_error(engine: Record) -> EngineAnswer;
+    fn nauvelppi_clear_overflow(engine: Record) -> EngineAnswer;
 }
 
 #[link(name = "probe", kind = "static")]
@@ -93,6 +148,36 @@ pub fn write(engine: Record, address: u32, value: u32, buffers: &mut Buffers) ->
     let (vertices, vertex_numbers) = (buffers.vertices.as_mut_ptr(), buffers.vertices.len());
     let (polygons, polygon_numbers) = (buffers.polygons.as_mut_ptr(), buffers.polygons.len());
     unsafe { nauvelppi_port_write(engine, address, value, vertices, vertex_numbers, polygons, polygon_numbers) }
+}
+
+pub fn word_in_place(engine: &mut Record, word: u32, buffers: &mut Buffers) -> CallAnswer {
+    let (vertices, vertex_numbers) = (buffers.vertices.as_mut_ptr(), buffers.vertices.len());
+    let (polygons, polygon_numbers) = (buffers.polygons.as_mut_ptr(), buffers.polygons.len());
+    unsafe { nauvelppi_word_in_place(engine, word, vertices, vertex_numbers, polygons, polygon_numbers) }
+}
+
+pub fn status(engine: Record) -> StatusAnswer {
+    unsafe { nauvelppi_status(engine) }
+}
+
+pub fn clip_matrix(engine: Record) -> MatrixAnswer {
+    unsafe { nauvelppi_clip_matrix(engine) }
+}
+
+pub fn vector_matrix(engine: Record) -> CornerAnswer {
+    unsafe { nauvelppi_vector_matrix(engine) }
+}
+
+pub fn overflow(engine: Record) -> FlagAnswer {
+    unsafe { nauvelppi_overflow(engine) }
+}
+
+pub fn clear_error(engine: Record) -> EngineAnswer {
+    unsafe { nauvelppi_clear_error(engine) }
+}
+
+pub fn clear_overflow(engine: Record) -> EngineAnswer {
+    unsafe { nauvelppi_clear_overflow(engine) }
 }
 
 /// Feeds words, or with `log` the port writes of a log, until one is refused.

@@ -37,6 +37,7 @@ const KINDS: &[(&str, usize, Case)] = &[
     ("writes", 100, engines::writes_case),
     ("mixture", 80, engines::mixture_case),
     ("pieces", 70, engines::pieces_case),
+    ("clears", 40, engines::clears_case),
     ("unsound", 80, engines::unsound_case),
     ("short buffers", 30, engines::short_case),
     ("demand 3", 50, engines::demand_3_case),

@@ -35,7 +35,7 @@ pub fn sound(random: &mut Random, begun: bool) -> Record {
 }
 
 fn fill_transform(random: &mut Random, record: &mut Record) {
-    let transform = &mut record.transform;
+    let transform = &mut record.core.registers.transform;
     transform.pair.position = matrix(random);
     transform.pair.vector = matrix(random);
     transform.pair.level = random.pick(&[0, 1, 2, 15, 29, 30, 31]);
@@ -46,7 +46,7 @@ fn fill_transform(random: &mut Random, record: &mut Record) {
     }
     transform.mode = random.below(4) as u32;
     transform.error = random.flag();
-    let stacks = &mut record.stacks;
+    let stacks = &mut record.core.stacks;
     stacks.positions.iter_mut().chain(&mut stacks.vectors).for_each(|entry| *entry = random.word() as i32);
 }
 
@@ -59,7 +59,7 @@ fn matrix(random: &mut Random) -> Matrix {
 }
 
 fn fill_geometry(random: &mut Random, record: &mut Record) {
-    let geometry = &mut record.geometry;
+    let geometry = &mut record.core.registers.geometry;
     geometry.colour = random.word() & 0x7FFF;
     geometry.given = random.word();
     geometry.attributes = random.word();
@@ -144,22 +144,22 @@ fn held(random: &mut Random, command: u8) -> usize {
 
 /// The ways to make a sound record unsound.
 pub const FAULTS: [fn(&mut Random, &mut Record); 24] = [
-    |random, record| record.transform.mode = past_word(random, 3),
-    |random, record| record.transform.pair.level = past(random, 31),
-    |random, record| record.transform.projection.level = past(random, 1),
-    |random, record| record.transform.texture.level = past(random, 1),
-    |random, record| record.geometry.colour = past_word(random, 0x7FFF),
+    |random, record| record.core.registers.transform.mode = past_word(random, 3),
+    |random, record| record.core.registers.transform.pair.level = past(random, 31),
+    |random, record| record.core.registers.transform.projection.level = past(random, 1),
+    |random, record| record.core.registers.transform.texture.level = past(random, 1),
+    |random, record| record.core.registers.geometry.colour = past_word(random, 0x7FFF),
     |random, record| waiting_colour(random, record, 1),
     |random, record| waiting_colour(random, record, 2),
     |random, record| waiting_colour(random, record, 3),
-    |random, record| record.geometry.waiting.list = past_word(random, 5),
+    |random, record| record.core.registers.geometry.waiting.list = past_word(random, 5),
     |random, record| too_many_waiting(random, record),
-    |random, record| record.geometry.rooms.vertices = past(random, MOST_VERTICES),
-    |random, record| record.geometry.rooms.polygons = past(random, MOST_POLYGONS),
-    |_, record| record.geometry.rooms.vertices = 0,
-    |_, record| record.geometry.rooms.polygons = 0,
-    |random, record| record.geometry.used.vertices = past(random, record.geometry.rooms.vertices),
-    |random, record| record.geometry.used.polygons = past(random, record.geometry.rooms.polygons),
+    |random, record| record.core.registers.geometry.rooms.vertices = past(random, MOST_VERTICES),
+    |random, record| record.core.registers.geometry.rooms.polygons = past(random, MOST_POLYGONS),
+    |_, record| record.core.registers.geometry.rooms.vertices = 0,
+    |_, record| record.core.registers.geometry.rooms.polygons = 0,
+    more_vertices_used,
+    more_polygons_used,
     hole_in_queue,
     queue_without_parameters,
     too_many_held,
@@ -187,9 +187,19 @@ fn past_word(random: &mut Random, last: u32) -> u32 {
     }
 }
 
+fn more_vertices_used(random: &mut Random, record: &mut Record) {
+    let geometry = &mut record.core.registers.geometry;
+    geometry.used.vertices = past(random, geometry.rooms.vertices);
+}
+
+fn more_polygons_used(random: &mut Random, record: &mut Record) {
+    let geometry = &mut record.core.registers.geometry;
+    geometry.used.polygons = past(random, geometry.rooms.polygons);
+}
+
 /// The last of so many waiting vertices gets a colour out of range.
 fn waiting_colour(random: &mut Random, record: &mut Record, count: usize) {
-    let waiting = &mut record.geometry.waiting;
+    let waiting = &mut record.core.registers.geometry.waiting;
     let vertices: [&mut Vertex; 3] = [&mut waiting.first, &mut waiting.second, &mut waiting.third];
     for vertex in vertices {
         vertex[4] = random.word() as i32 & 0x7FFF;
@@ -206,7 +216,7 @@ fn waiting_colour(random: &mut Random, record: &mut Record, count: usize) {
 
 /// As many vertices wait as a polygon needs, or more; in a closed list any.
 fn too_many_waiting(random: &mut Random, record: &mut Record) {
-    let waiting = &mut record.geometry.waiting;
+    let waiting = &mut record.core.registers.geometry.waiting;
     for vertex in [&mut waiting.first, &mut waiting.second, &mut waiting.third] {
         vertex[4] &= 0x7FFF;
     }

@@ -15,14 +15,18 @@ const DEMANDED: [usize; 10] = [1, 2, 3, 4, 5, 6, 7, 8, 10, 11];
 pub enum Call {
     Start,
     Word,
+    InPlace,
     Write,
     Feed,
+    Read,
+    Clear,
     Pack,
     Unpack,
     Program,
 }
 
-const NAMES: [&str; 7] = ["start", "word", "port write", "feed", "pack", "unpack", "program"];
+const NAMES: [&str; 10] =
+    ["start", "word", "in place", "port write", "feed", "read", "clear", "pack", "unpack", "program"];
 
 /// Number 0 stands for an accepted call.
 #[derive(Default)]

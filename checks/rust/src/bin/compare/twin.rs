@@ -7,15 +7,23 @@ use reference::geometry::Buffers;
 use reference::record::{Counts, Record};
 use reference::refusal::Refusal;
 
-use crate::library::{self, EngineAnswer};
+use crate::library::{self, CornerAnswer, EngineAnswer, FlagAnswer, MatrixAnswer, StatusAnswer};
 use crate::random::Random;
 use crate::tally::{self, Tally};
 
-/// A call of the engine.
+/// A call of the engine: a word by value, a word on the caller's own record, a port write.
 #[derive(Clone, Copy, Debug)]
 pub enum Call {
     Word(u32),
+    InPlace(u32),
     Write(u32, u32),
+}
+
+/// What can be cleared.
+#[derive(Clone, Copy, Debug)]
+pub enum Flag {
+    Error,
+    Overflow,
 }
 
 /// The words of a list as calls.
@@ -28,14 +36,21 @@ pub fn write_calls(log: &[u32]) -> Vec<Call> {
     log.chunks_exact(2).map(|pair| Call::Write(pair[0], pair[1])).collect()
 }
 
-/// What was done with a twin: a call, or a piece of a list, with `true` of a log, in one call.
+/// The same with some of the words on the caller's own record.
+pub fn partly_in_place(random: &mut Random, calls: Vec<Call>) -> Vec<Call> {
+    let in_place = |call| match call {
+        Call::Word(word) if random.flag() => Call::InPlace(word),
+        _ => call,
+    };
+    calls.into_iter().map(in_place).collect()
+}
+
+/// What was done with a twin: a call, a piece of a list, with `true` of a log, in one call, or a clear.
 enum Deed {
     Call(Call),
     Piece(bool, Vec<u32>),
+    Clear(Flag),
 }
-
-/// The last number that stands for a list.
-const LAST_LIST: u32 = 5;
 
 /// The numbers before and after each lent buffer that no call may touch.
 const GUARD: usize = 8;
@@ -106,7 +121,7 @@ impl Twin {
     fn reference(&mut self, call: Call) -> u32 {
         let mut buffers = self.expected.buffers();
         let done = match (&mut self.engine, call) {
-            (Ok(engine), Call::Word(word)) => engine.word(word, &mut buffers),
+            (Ok(engine), Call::Word(word) | Call::InPlace(word)) => engine.word(word, &mut buffers),
             (Ok(engine), Call::Write(address, value)) => engine.write(address, value, &mut buffers),
             (Err(refusal), _) => Err(*refusal),
         };
@@ -117,8 +132,82 @@ impl Twin {
         let mut buffers = self.given.buffers();
         match call {
             Call::Word(word) => library::word(self.record, word, &mut buffers),
+            Call::InPlace(word) => {
+                let mut engine = self.record;
+                let answer = library::word_in_place(&mut engine, word, &mut buffers);
+                EngineAnswer { number: answer.number, place: answer.place, engine }
+            }
             Call::Write(address, value) => library::write(self.record, address, value, &mut buffers),
         }
+    }
+
+    /// Compares all that can be read: of an unsound record zeros, with number 1.
+    pub fn read(&self, tally: &mut Tally) -> Result<(), String> {
+        let place = 0;
+        let (number, status, matrix, corner, flag) = match &self.engine {
+            Ok(engine) => (0, engine.status(), engine.clip(), engine.direction(), engine.overflow()),
+            Err(refusal) => (refusal.number(), 0, [0; 16], [0; 9], false),
+        };
+        let expected = (
+            StatusAnswer { number, place, status },
+            MatrixAnswer { number, place, matrix },
+            CornerAnswer { number, place, corner },
+            FlagAnswer { number, place, flag },
+        );
+        let record = self.record;
+        let given = (
+            library::status(record),
+            library::clip_matrix(record),
+            library::vector_matrix(record),
+            library::overflow(record),
+        );
+        if given != expected {
+            return Err(self.report(&format!("reads differ\nreference {expected:?}\nlibrary {given:?}")));
+        }
+        tally.count(tally::Call::Read, number);
+        Ok(())
+    }
+
+    /// Clears a flag on both sides, and compares every cell: only the flag changes, with the error the projection level
+    /// too; nothing in an unsound record.
+    pub fn clear(&mut self, flag: Flag, tally: &mut Tally) -> Result<(), String> {
+        self.deeds.push(Deed::Clear(flag));
+        let mut expected = self.record;
+        let number = match &mut self.engine {
+            Ok(engine) => {
+                let registers = &mut expected.core.registers;
+                match flag {
+                    Flag::Error => {
+                        engine.clear_error();
+                        registers.transform.error = false;
+                        registers.transform.projection.level = 0;
+                    }
+                    Flag::Overflow => {
+                        engine.clear_overflow();
+                        registers.geometry.overflow = false;
+                    }
+                }
+                0
+            }
+            Err(refusal) => refusal.number(),
+        };
+        let answer = match flag {
+            Flag::Error => library::clear_error(self.record),
+            Flag::Overflow => library::clear_overflow(self.record),
+        };
+        if (answer.number, answer.place) != (number, 0) {
+            return Err(self.report(&format!("reference {number} 0, library {} {}", answer.number, answer.place)));
+        }
+        if answer.engine != expected {
+            let lines = different_lines(&expected, &answer.engine);
+            return Err(self.report(&format!("another record after a clear\n{lines}")));
+        }
+        if number == 0 {
+            self.compare_meaning(&answer.engine)?;
+        }
+        self.record = answer.engine;
+        tally.count(tally::Call::Clear, number);
+        Ok(())
     }
 
     /// Feeds a piece of a list, or of a log, in one call of the library and item by item to the reference, and compares
@@ -142,12 +231,9 @@ impl Twin {
         Ok(number)
     }
 
-    /// The number of the first call that the reference refuses, and how many it took before. A record whose list is
-    /// none is refused also where there is no call.
+    /// The number of the first call that the reference refuses, and how many it took before. Without a call nothing is
+    /// tested.
     fn feed_reference(&mut self, calls: &[Call]) -> (u32, usize) {
-        if !self.has_list() {
-            return (Refusal::Unsound.number(), 0);
-        }
         for (taken, &call) in calls.iter().enumerate() {
             let number = self.reference(call);
             if number != 0 {
@@ -155,11 +241,6 @@ impl Twin {
             }
         }
         (0, calls.len())
-    }
-
-    /// The number of the record's list stands for one.
-    fn has_list(&self) -> bool {
-        self.record.geometry.waiting.list <= LAST_LIST
     }
 
     /// An accepted call: the record means what the engine is.
@@ -178,10 +259,10 @@ impl Twin {
         self.compare_buffers()
     }
 
-    /// A piece of which nothing was taken: every cell, but the free ones of the stream only where the list is none.
+    /// A piece of which nothing was taken: every cell but the free ones of the stream.
     fn compare_kept(&self, record: &Record) -> Result<(), String> {
         let mut given = *record;
-        if self.has_list() && given.meaning().stream == self.record.meaning().stream {
+        if given.meaning().stream == self.record.meaning().stream {
             given.stream = self.record.stream;
         }
         self.compare_cells(&given)
@@ -205,23 +286,27 @@ impl Twin {
         Err(self.report(&format!("buffers differ: vertices {vertices}, polygons {polygons}")))
     }
 
-    /// Makes all the calls; the buffers are compared at the end.
+    /// Makes all the calls; the buffers, and what can be read, are compared at the end.
     pub fn feed(&mut self, calls: &[Call], tally: &mut Tally) -> Result<(), String> {
         for &call in calls {
             self.call(call, tally)?;
         }
+        self.read(tally)?;
         self.compare_buffers()
     }
 
     pub fn report(&self, what: &str) -> String {
-        let mut text =
-            format!("engine: {what}\nthe last of these: w WORD, p ADDRESS VALUE, a piece of a list or log:\n");
+        let mut text = format!(
+            "engine: {what}\nthe last of these: w, i WORD, p ADDRESS VALUE, a piece of a list or log, a clear:\n"
+        );
         for deed in &self.deeds {
             let written = match deed {
                 Deed::Call(Call::Word(word)) => write!(text, "w {word:08x}, "),
+                Deed::Call(Call::InPlace(word)) => write!(text, "i {word:08x}, "),
                 Deed::Call(Call::Write(address, value)) => write!(text, "p {address:08x} {value:08x}, "),
                 Deed::Piece(false, words) => write!(text, "list {words:08x?}, "),
                 Deed::Piece(true, words) => write!(text, "log {words:08x?}, "),
+                Deed::Clear(flag) => write!(text, "clear {flag:?}, "),
             };
             written.expect("a string takes any text");
         }
@@ -235,6 +320,7 @@ impl Twin {
 fn kind(call: Call) -> tally::Call {
     match call {
         Call::Word(_) => tally::Call::Word,
+        Call::InPlace(_) => tally::Call::InPlace,
         Call::Write(..) => tally::Call::Write,
     }
 }

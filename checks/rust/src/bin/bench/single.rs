@@ -1,4 +1,4 @@
-//! The engine calls by value, one for each word or port write.
+//! One engine call for each word or port write: by value, and for words also on the caller's own record.
 
 use std::hint::black_box;
 
@@ -20,6 +20,7 @@ pub fn time(sample: &Sample) {
         }
         engine
     });
+    time_in_place(sample.name, &list);
     time_words(sample.name, "word, moved", &list, |list, buffers| {
         let mut engine = engine();
         for &word in list {
@@ -53,6 +54,31 @@ fn time_words(kind: &str, what: &str, list: &[u32], reference: impl Fn(&[u32], &
             black_box(record);
         },
         || _ = black_box(reference(black_box(list), &mut expected.buffers())),
+    );
+    assert!(given == expected, "both buffers hold the same");
+}
+
+fn time_in_place(kind: &str, list: &[u32]) {
+    let (mut given, mut expected) = (Lent::new(), Lent::new());
+    row(
+        kind,
+        "word in place",
+        list.len(),
+        || {
+            let mut record = library::start(MOST_VERTICES, MOST_POLYGONS).engine;
+            for &word in black_box(list) {
+                let answer = library::word_in_place(&mut record, word, &mut given.buffers());
+                assert_eq!(answer.number, 0, "the word is taken");
+            }
+            black_box(record);
+        },
+        || {
+            let (mut engine, mut buffers) = (engine(), expected.buffers());
+            for &word in black_box(list) {
+                engine.word(word, &mut buffers).expect("the word is taken");
+            }
+            black_box(engine);
+        },
     );
     assert!(given == expected, "both buffers hold the same");
 }
