@@ -1,6 +1,5 @@
-// The entries for C: packer and unpacker on byte slices, and the engine's calls on a record of numbers and flags.
-// Document 01, "Packer and unpacker can be called from our C editor on byte slices." `bindings/c/nauvelppi.h` declares
-// them.
+// The entries for C: packer and unpacker on byte slices, and the engine's calls. Document 01, "Packer and unpacker can be
+// called from our C editor on byte slices." `bindings/c/nauvelppi.h` declares them.
 ghost use mathlib.Core.Path.{_≡_};
 ghost use Prim.Native.Nat.{_%_};
 ghost use lib.Dec.{eqb};
@@ -92,7 +91,7 @@ pub extern "C" fn nauvelppi_start(vertices: usize, polygons: usize) -> Answer
     Engine::start(vertices, polygons)
 }
 
-// One packed word, as `engine::word`.
+// One packed word, as `engine::word`: refused with 1, 2, 4 or 3, in this order.
 #[no_mangle]
 pub extern "C" fn nauvelppi_word(
     e: Engine,
@@ -107,7 +106,7 @@ pub extern "C" fn nauvelppi_word(
     word(e, w, &mut *vertices, &mut *polygons)
 }
 
-// One port write, as `engine::port_write`.
+// One port write, as `engine::port_write`: refused with 1, 2, 5, 4 or 6, in this order.
 #[no_mangle]
 pub extern "C" fn nauvelppi_port_write(
     e: Engine,

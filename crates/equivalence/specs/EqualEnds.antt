@@ -54,7 +54,8 @@ pub record EqualEnds (a b : Machine (Buffered Core)) : Type 0 where
   pub attributes : geometryOf a .attributes ≡ geometryOf b .attributes
   -- "the position;"
   pub position : geometryOf a .position ≡ geometryOf b .position
-  -- "the open list's kind, or that none is open, and whether its next k is odd;" a triangle strip carries the last
+  -- "the open list's kind, or that none is open, and whether its next k is odd;" the list's number stands for both
+  -- (state/specs/List.antt: kindIn, nextOdd)
   pub open-list : waitingOf a .list ≡ waitingOf b .list
   -- "how many vertices wait, and each of them in order;"
   pub waiting-count : waitingOf a .count ≡ waitingOf b .count

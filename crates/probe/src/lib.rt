@@ -3,7 +3,7 @@
 // compares the layout of C's structs with it.
 ghost use mathlib.Core.Path.{_≡_};
 ghost use Rattle.execute.specs.Call.{machineOf};
-ghost use Rattle.feeding.specs.Feed.{feedAs, fedOf};
+ghost use Rattle.feeding.specs.Feed.{feedAs, fedOf, FirstGivenBack};
 ghost use Rattle.probe.specs.Marks.{markedTransform, markedGeometry, markedStacks, markedStream, marked};
 use feeding::Fed;
 use feeding::feed_as;
@@ -31,6 +31,7 @@ pub extern "C" fn probe_feed(
 ) -> Fed
     ensures { λ r. ⌜ fedOf r (now (vertices .exit)) (now (polygons .exit))
         ≡ feedAs log (machineOf e (now (vertices .entry)) (now (polygons .entry))) (now (words .entry)) ⌝ }
+    ensures { λ r. ⌜ FirstGivenBack e r ⌝ }
 {
     feed_as(log, e, words, &mut *vertices, &mut *polygons)
 }

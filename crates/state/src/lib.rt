@@ -1,11 +1,11 @@
 // The engine's record, by value: the core (all that demand 3 compares, and the rooms) and the command stream. Here are
 // the fresh engine, the start, and the test that a record is sound. C has the same record.
 ghost use mathlib.Core.Path.{_≡_};
-ghost use mathlib.Core.Bool.{true, cond};
+ghost use mathlib.Core.Bool.{true, cond, _&&_};
 ghost use lib.Dec.{eqb};
 ghost use Rattle.commands.specs.Commands.{parameterTable};
 ghost use Rattle.stream.specs.Pending.{packedPending};
-ghost use Rattle.state.specs.List.{isList, listOf, numberOf};
+ghost use Rattle.state.specs.List.{isList, listOf};
 ghost use Rattle.state.specs.With.{withRooms, answered};
 ghost use Rattle.state.specs.Mode.{usesPair};
 ghost use Rattle.state.specs.Fresh.{freshTransform, freshGeometry, freshStream, fresh, start};
@@ -333,41 +333,31 @@ pub fn list_of(number: u32) -> OpenList
     }
 }
 
-pub fn number_of(list: OpenList) -> u32
-    ensures { λ r. ⌜ r ≡ numberOf list ⌝ }
+// No list is open. Of a list's number, as `needed_by`.
+pub fn is_closed(list: u32) -> bool
+    ensures { λ r. ⌜ r ≡ isClosed (listOf list) ⌝ }
 {
     match list {
-        OpenList::Closed => 0,
-        OpenList::Triangles => 1,
-        OpenList::Quads => 2,
-        OpenList::TriangleStrip(odd) => { if odd { 4 } else { 3 } }
-        OpenList::QuadStrip => 5,
-    }
-}
-
-// No list is open.
-pub fn is_closed(list: OpenList) -> bool
-    ensures { λ r. ⌜ r ≡ isClosed list ⌝ }
-{
-    match list {
-        OpenList::Closed => true,
-        OpenList::Triangles => false,
-        OpenList::Quads => false,
-        OpenList::TriangleStrip(_) => false,
-        OpenList::QuadStrip => false,
+        1 => false,
+        2 => false,
+        3 => false,
+        4 => false,
+        5 => false,
+        _ => true,
     }
 }
 
 // How many vertices make a polygon of the list; a closed list makes none.
-pub fn needed_by(list: OpenList) -> usize
-    ensures { λ r. ⌜ r ≡ needed list ⌝ }
+pub fn needed_by(list: u32) -> usize
+    ensures { λ r. ⌜ r ≡ needed (listOf list) ⌝ }
 {
     match list {
-        OpenList::Closed => 0,
-        OpenList::Triangles => 3,
-        OpenList::Quads => 4,
-        OpenList::TriangleStrip(_) => 3,
-        OpenList::QuadStrip => 4,
+        1 => 3,
+        2 => 4,
+        3 => 3,
+        4 => 3,
+        5 => 4,
+        _ => 0,
     }
 }
 
@@ -382,13 +372,12 @@ fn is_coloured(v: VertexRecord) -> bool
 fn is_sound_waiting(w: Waiting) -> bool
     ensures { λ r. ⌜ r ≡ soundWaiting w ⌝ }
 {
-    let number = w.list;
-    let list = list_of(number);
+    let list = w.list;
     let n = w.count;
     let first = w.first;
     let second = w.second;
     let third = w.third;
-    is_list(number)
+    is_list(list)
         & ((is_closed(list) & (n == 0)) | (n < needed_by(list)))
         & ((n <= 0) | is_coloured(first))
         & ((n <= 1) | is_coloured(second))
@@ -428,14 +417,12 @@ fn is_sound_stream(table: &[u8; 256], s: Stream) -> bool
         & (((next == 0) & !s.dummy) | (port == 0))
 }
 
-// Whether the record is sound, by a table that was laid out before. For the crates above this one.
-pub fn is_sound_in(table: &[u8; 256], e: Engine) -> bool
+// Whether a record of these parts is sound, by a table that was laid out before; the stacks are not looked at. For the
+// crates above this one.
+pub fn is_sound_in(table: &[u8; 256], t: Transform, g: Geometry, s: Stream) -> bool
     requires { ⌜ now table ≡ parameterTable ⌝ }
-    ensures { λ r. ⌜ r ≡ sound e ⌝ }
+    ensures { λ r. ⌜ r ≡ ((soundTransform t && soundGeometry g) && soundStream s) ⌝ }
 {
-    let t = e.core.registers.transform;
-    let g = e.core.registers.geometry;
-    let s = e.stream;
     is_sound_transform(t) & is_sound_geometry(g) & is_sound_stream(table, s)
 }
 
@@ -444,7 +431,10 @@ pub fn is_sound(e: Engine) -> bool
     ensures { λ r. ⌜ r ≡ sound e ⌝ }
 {
     let table = parameter_table();
-    is_sound_in(&table, e)
+    let t = e.core.registers.transform;
+    let g = e.core.registers.geometry;
+    let s = e.stream;
+    is_sound_in(&table, t, g, s)
 }
 
 // A packed word has commands or its dummy to come. For the crates above this one: number 1 does not fall.

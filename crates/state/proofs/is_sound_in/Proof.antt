@@ -1,6 +1,5 @@
 -- `state::is_sound_in` meets its contract. Assumes nothing.
 use borrow.Author.Needs.{needs}
-use Rattle.state.specs.Sound.{soundCore, sound}
 use Rattle.state.proofs.is_sound_in.Statement.{statement}
 use Rattle.state.proofs.is_sound_in.Tie as tie
 
@@ -14,7 +13,6 @@ is-sound-stream-requires : tie.Need-is-sound-stream-requires
 is-sound-stream-requires c κs = search needs
 
 returns : tie.Need-returns
-unfolding sound soundCore
 returns c =
     simp (
       c .is-sound-stream .ensures,
