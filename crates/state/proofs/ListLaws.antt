@@ -1,12 +1,14 @@
 -- The open list and its number. Assumes nothing.
-use mathlib.Core.Bool.{Bool, true, false}
+use mathlib.Core.Bool.{Bool, true, false, not, _||_}
 use mathlib.Core.Path.{_≡_, refl, sym, _∙_}
 use Prim.Native.Nat.{ℕ, zero, suc}
 use native.Mathlib.Omega.{arith}
-use borrow.Author.Tests.{ltb-true}
+use lib.Dec.{eqb}
+use borrow.Author.Tests.{ltb-true, le-ltb, ne-eqb}
 use Rattle.state.specs.declared.OpenList.{OpenList}
 use Rattle.state.specs.declared.OpenList.the-variants.{Closed, Triangles, Quads, TriangleStrip, QuadStrip}
 use Rattle.state.specs.List.{isList, listOf, numberOf, kindIn, nextOdd}
+use Rattle.state.specs.Sound.{isClosed}
 
 pub list-back : (l : OpenList) → listOf (numberOf l) ≡ l
 unfolding listOf
@@ -25,6 +27,19 @@ number-is-list Quads = refl
 number-is-list (TriangleStrip false) = refl
 number-is-list (TriangleStrip true) = refl
 number-is-list QuadStrip = refl
+
+-- number 0 and those that stand for none name a closed list
+pub closed-numbers : (n : ℕ) → (eqb n 0 || not (isList n)) ≡ isClosed (listOf n)
+unfolding listOf
+closed-numbers zero = refl
+closed-numbers (suc zero) = refl
+closed-numbers (suc (suc zero)) = refl
+closed-numbers (suc (suc (suc zero))) = refl
+closed-numbers (suc (suc (suc (suc zero)))) = refl
+closed-numbers (suc (suc (suc (suc (suc zero))))) = refl
+closed-numbers (suc (suc (suc (suc (suc (suc n)))))) =
+    let m : ℕ = suc (suc (suc (suc (suc (suc n))))) in
+    rw (ne-eqb m 0 (λ z. omega (arith, z)), le-ltb m 6 (omega arith)) refl
 
 -- no number but 1 to 5 names an open list
 pub closed-else : (n : ℕ) → (n ≡ 1 → ⊥) → (n ≡ 2 → ⊥) → (n ≡ 3 → ⊥) → (n ≡ 4 → ⊥) → (n ≡ 5 → ⊥) → listOf n ≡ Closed

@@ -333,18 +333,11 @@ pub fn list_of(number: u32) -> OpenList
     }
 }
 
-// No list is open. Of a list's number, as `needed_by`.
+// No list is open; of the list's number, as the next.
 pub fn is_closed(list: u32) -> bool
     ensures { λ r. ⌜ r ≡ isClosed (listOf list) ⌝ }
 {
-    match list {
-        1 => false,
-        2 => false,
-        3 => false,
-        4 => false,
-        5 => false,
-        _ => true,
-    }
+    (list == 0) | !is_list(list)
 }
 
 // How many vertices make a polygon of the list; a closed list makes none.
