@@ -1,5 +1,5 @@
--- Demands 2 and 3 of the calls that C makes, by their contracts alone. Logs and lists are bytes, little-endian words; the
--- contracts of `nauvelppi_word` and `nauvelppi_port_write` are those of `word` and `port_write`, and that of
+-- Demands 2 and 3 of the calls that C makes, by their contracts alone. Logs and lists are bytes, little-endian words;
+-- the contracts of `nauvelppi_word` and `nauvelppi_port_write` are those of `word` and `port_write`, and that of
 -- `nauvelppi_word_in_place` is `word`'s too, of its answer and the record that it leaves (`inPlace`).
 use mathlib.Core.List.{List}
 use mathlib.Core.Path.{_≡_}

@@ -1,5 +1,5 @@
-// The entries for C: packer and unpacker on byte slices, and the engine's calls. Document 01, "Packer and unpacker can be
-// called from our C editor on byte slices." `bindings/c/nauvelppi.h` declares them.
+// The entries for C: packer and unpacker on byte slices, and the engine's calls. Document 01, "Packer and unpacker can
+// be called from our C editor on byte slices." `bindings/c/nauvelppi.h` declares them.
 ghost use mathlib.Core.Path.{_≡_};
 ghost use Prim.Native.Nat.{_%_};
 ghost use lib.Dec.{eqb};

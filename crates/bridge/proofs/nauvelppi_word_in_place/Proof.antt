@@ -1,5 +1,5 @@
--- `bridge::nauvelppi_word_in_place` meets its contract: a walk of its MIR, by hand. The borrow of the record is opened, the
--- record is copied and passed to `word` with the two buffers, the engine that `word` answers is stored behind the
+-- `bridge::nauvelppi_word_in_place` meets its contract: a walk of its MIR, by hand. The borrow of the record is opened,
+-- the record is copied and passed to `word` with the two buffers, the engine that `word` answers is stored behind the
 -- borrow, and the borrow is closed at it. All that the proof knows of `word` is that it meets its contract. The
 -- buffers' borrows are given up to it at their own lifetimes, shares and names.
 -- Nothing here goes into a field of the engine: its machine value is `LL.val` of the record.

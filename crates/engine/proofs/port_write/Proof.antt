@@ -24,10 +24,10 @@ unfolding feedAs
 returns c =
     let a = c .before .before .before .before .before .before .before .before .before .args in
     let call = c .before .before .before .feed-items in (
-      one-reply portStep (a .e) (a .vertices .now) (a .polygons .now) (write (a .address) (a .value)) _ (call .result) _ _ (call .ensures .0 .is)
-          (call .ensures .1),
-      one-given-back portStep (a .e) (a .vertices .now) (a .polygons .now) (write (a .address) (a .value)) _ (call .result) _ _
-          (call .ensures .0 .is) (call .ensures .1) (call .ensures .0 .given-back),
+      one-reply portStep (a .e) (a .vertices .now) (a .polygons .now) (write (a .address) (a .value)) _ (call .result)
+          _ _ (call .ensures .0 .is) (call .ensures .1),
+      one-given-back portStep (a .e) (a .vertices .now) (a .polygons .now) (write (a .address) (a .value)) _
+          (call .result) _ _ (call .ensures .0 .is) (call .ensures .1) (call .ensures .0 .given-back),
     )
 
 pub port-write-spec : {M : Type 1} → statement M

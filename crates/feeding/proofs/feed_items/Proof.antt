@@ -40,7 +40,8 @@ returns-2 c =
     let items = c .before .before .before .before .before .before .items-in in
     let some : 0 < items .result = omega (arith, c .before .before .before .before .before .if1 .left) in (
       told-none (s .pre) (c .answered2 .result) (c .answered2 .ensures)
-          (refused-as (a .e) (a .vertices .now) (a .polygons .now) (a .words .now) (a .log) (rw (items .ensures) at some)
+          (refused-as (a .e) (a .vertices .now) (a .polygons .now) (a .words .now) (a .log)
+          (rw (items .ensures) at some)
           (c .before .before .first-number .result) (c .before .before .first-number .ensures)
           (λ z. omega (arith, z, c .before .if2 .taken))),
       ap (λ (x : Answer). x .place) (c .answered2 .ensures),

@@ -75,8 +75,8 @@ returns : tie.Need-returns
 returns c =
     let call = c .before .before .before .before .before .before .before .before .before .run-turns in
     let r = call .result in (
-      told-as (whole-is (c .before .before .before .before .before .before .before .before .before .before .before .before .before
-          .before .before .before .before .before .before .before)) (c .answered .result)
+      told-as (whole-is (c .before .before .before .before .before .before .before .before .before .before .before
+          .before .before .before .before .before .before .before .before .before)) (c .answered .result)
           (c .answered .ensures
           ∙ ap (answered (r .number))
           (c .before .engine-from .ensures

@@ -426,13 +426,13 @@ returns c =
           (c .stream-of .ensures)
           ∙ ap (λ (p : Pending). fed (r .next) (r .number) (machine t p))
           (end-pending (r .begun) new (told .1 .2)
-          (end-fit e (a .vertices .now) (a .polygons .now) first (a .words .now) (l .i) (l .begun) (l .work .held) t r new
-          (a .log) (told .0))
-          (end-due e (a .vertices .now) (a .polygons .now) first (a .words .now) (l .i) (l .begun) (l .work .held) t r new
-          (a .log) (told .0) end)
+          (end-fit e (a .vertices .now) (a .polygons .now) first (a .words .now) (l .i) (l .begun) (l .work .held) t r
+          new (a .log) (told .0))
+          (end-due e (a .vertices .now) (a .polygons .now) first (a .words .now) (l .i) (l .begun) (l .work .held) t r
+          new (a .log) (told .0) end)
           _ refl)
-          ∙ ended-as e (a .vertices .now) (a .polygons .now) first (a .words .now) (l .i) (l .begun) (l .work .held) t r new
-          (a .log)
+          ∙ ended-as e (a .vertices .now) (a .polygons .now) first (a .words .now) (l .i) (l .begun) (l .work .held) t r
+          new (a .log)
           (l .inv .looping) (told .0) end
           ∙ ap (λ (e : Engine). feedAs (a .log) (machineOf e (a .vertices .now) (a .polygons .now)) (a .words .now))
           (begins-is (s .before .before));

@@ -54,7 +54,8 @@ returns c =
     let vertices = polygons .before .before .before .before in
     let waiting = vertices .before .before .before .before in
     let b = within
-    (c .before .before .before .before .before .before .before .before .before .before .before .before .before .before .before .before) in (
+    (c .before .before .before .before .before .before .before .before .before .before .before .before .before .before
+    .before .before) in (
       puts-both (puts-both (waiting .put-waiting .ensures .0) (vertices .put-vertices .ensures .0))
           (polygons .put-polygons .ensures .0),
       omega (
