@@ -1,5 +1,5 @@
-/* The packer, the unpacker and the engine for C, as crates/bridge/src/lib.rt exports them. Link
- * target/staticlib/libbridge.a, which `rt staticlib bridge` builds. No proof speaks of this header; checks/c/layout.c
+/* The packer, the unpacker and the engine for C, as crates/nauvelppi/src/lib.rt exports them. Link
+ * target/staticlib/libnauvelppi.a, which `rt staticlib nauvelppi` builds. No proof speaks of this header; checks/c/layout.c
  * compares its structs with those of the library, member by member.
  *
  * Any bytes, any sizes and any engine are answered. Nothing checks these rules, which the caller keeps:

@@ -10,7 +10,7 @@ fn main() {
     let libraries = root.join("target/staticlib");
     println!("cargo:rustc-link-search=native={}", libraries.display());
     println!("cargo:rerun-if-changed=build.rs");
-    for name in ["bridge", "probe"] {
+    for name in ["nauvelppi", "probe"] {
         let library = libraries.join(format!("lib{name}.a"));
         println!("cargo:rerun-if-changed={}", library.display());
         // Cargo does not look into what it links: a library of another time is another environment, and so linked anew.

@@ -1,5 +1,4 @@
 -- Demand 3 of the engine, from demand 3 over any engine; and that the list of "Equal ends" leaves nothing out.
--- Assumes nothing.
 use mathlib.Core.Path.{_≡_, refl}
 use Rattle.stream.specs.Command.{Command, Complete}
 use Rattle.stream.specs.Call.{Machine}

@@ -1,4 +1,4 @@
--- Demand 3 of a function that runs both sides of a log. Assumes nothing.
+-- Demand 3 of a function that runs both sides of a log.
 use mathlib.Core.List.{List}
 use mathlib.Core.Path.{_≡_, refl, sym, ap, _∙_}
 use Prim.Native.Nat.{ℕ}

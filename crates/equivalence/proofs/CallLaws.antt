@@ -1,4 +1,4 @@
--- Calls by their contracts follow the definitions, so demand 3 holds of calls that were really made. Assumes nothing.
+-- Calls by their contracts follow the definitions, so demand 3 holds of calls that were really made.
 use mathlib.Core.List.{List}
 use mathlib.Core.Path.{_≡_, refl, sym, ap, subst, _∙_}
 use Prim.Native.Nat.{ℕ}

@@ -1,4 +1,4 @@
--- Demand 2 of calls that were really made, from the definitions' (stream/proofs/Demands). Assumes nothing.
+-- Demand 2 of calls that were really made, from the definitions' (stream/proofs/Demands).
 use mathlib.Core.Bool.{Bool, true, false, cond, _||_}
 use mathlib.Core.List.{List}
 use mathlib.Core.Path.{_≡_, refl, sym, ap, subst, _∙_}

@@ -1,4 +1,4 @@
--- What a function promises that packs a log and runs both sides of it. Assumes nothing.
+-- What a function promises that packs a log and runs both sides of it.
 use mathlib.Core.List.{List}
 use mathlib.Core.Path.{_≡_}
 use Prim.Native.Nat.{ℕ}

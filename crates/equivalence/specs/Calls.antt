@@ -1,5 +1,5 @@
 -- Demand 3 of calls that were really made: whatever functions gave the answers, of each call only what the contracts of
--- `pack`, `port_write` and `word` promise is used. Assumes nothing.
+-- `pack`, `port_write` and `word` promise is used.
 use mathlib.Core.List.{List, [], _∷_}
 use mathlib.Core.Path.{_≡_}
 use Prim.Native.Nat.{ℕ}

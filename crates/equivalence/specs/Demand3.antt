@@ -1,5 +1,5 @@
 -- Demand 3 of the engine: document 01, "The two sides of demand 3". One claim about the whole log, over the definitions
--- that the contracts of `pack`, `port_write` and `word` cite. Assumes nothing.
+-- that the contracts of `pack`, `port_write` and `word` cite.
 use mathlib.Core.Bool.{true, false}
 use mathlib.Core.List.{List}
 use mathlib.Core.Path.{_≡_}

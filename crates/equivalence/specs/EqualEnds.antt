@@ -1,4 +1,4 @@
--- Where the two sides of demand 3 have to agree: document 01, "The two sides of demand 3". Assumes nothing.
+-- Where the two sides of demand 3 have to agree: document 01, "The two sides of demand 3".
 use mathlib.Core.Bool.{false}
 use mathlib.Core.List.{List}
 use mathlib.Core.Path.{_≡_}

@@ -1,5 +1,5 @@
 -- Demand 2 of a log that is packed and unpacked by calls that were really made: "Unpacking a packed log gives back the
--- log"; document 01, "Packer and unpacker": "0 for commands without parameters". Assumes nothing.
+-- log"; document 01, "Packer and unpacker": "0 for commands without parameters".
 use mathlib.Core.List.{List}
 use mathlib.Core.Path.{_≡_}
 use Prim.Native.Nat.{ℕ, _≤_}

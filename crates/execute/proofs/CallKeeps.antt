@@ -1,4 +1,4 @@
--- Both calls keep the engine sound, the rooms and the lengths of the buffers, whatever they answer. Assumes nothing.
+-- Both calls keep the engine sound, the rooms and the lengths of the buffers, whatever they answer.
 use mathlib.Core.Bool.{true, and-eq-true-iff}
 use mathlib.Core.List.{List}
 use mathlib.Core.Path.{_≡_, refl}

@@ -1,4 +1,4 @@
--- What the definition of a call gives, case by case: the same for words and port writes. Assumes nothing.
+-- What the definition of a call gives, case by case: the same for words and port writes.
 use mathlib.Core.Bool.{Bool, true, false, cond, _&&_}
 use mathlib.Core.List.{List}
 use mathlib.Core.Path.{_≡_, refl}

@@ -1,4 +1,4 @@
--- The two calls of the real engine: document 01, "Numbers a call can refuse with". Assumes nothing.
+-- The two calls of the real engine: document 01, "Numbers a call can refuse with".
 use mathlib.Core.Bool.{Bool}
 use mathlib.Core.List.{List}
 use mathlib.Core.Path.{_≡_}

@@ -1,4 +1,4 @@
--- One command on the core and the caller's two buffers. Assumes nothing.
+-- One command on the core and the caller's two buffers.
 use mathlib.Core.Bool.{Bool}
 use mathlib.Core.List.{List}
 use Prim.Native.Nat.{ℕ}

@@ -1,4 +1,4 @@
--- Several items of a feed that are all taken. Assumes nothing.
+-- Several items of a feed that are all taken.
 use mathlib.Core.List.{List, [], _∷_, _++_}
 use mathlib.Core.Path.{_≡_, refl, sym, ap, subst, _∙_}
 use Prim.Native.Nat.{ℕ, suc, _+_}

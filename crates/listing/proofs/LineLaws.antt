@@ -1,4 +1,4 @@
--- The lines of port writes and of words, and how long each text of the programs is. Assumes nothing.
+-- The lines of port writes and of words, and how long each text of the programs is.
 use mathlib.Core.List.{List, [], _∷_, _++_, append-assoc, append-nil}
 use mathlib.Core.Path.{_≡_, refl}
 use Prim.Native.Nat.{ℕ, _+_, _*_, _/_, _≤_, _<_}

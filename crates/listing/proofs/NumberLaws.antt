@@ -1,4 +1,4 @@
--- A 32-bit number as text: what `io` makes of it in decimal and in hex, and how long that is. Assumes nothing.
+-- A 32-bit number as text: what `io` makes of it in decimal and in hex, and how long that is.
 use mathlib.Core.Bool.{Bool, true, false, cond}
 use mathlib.Core.List.{List, [], _∷_, _++_}
 use mathlib.Core.Path.{_≡_, refl}

@@ -1,4 +1,4 @@
--- Text put into a buffer piece by piece. Assumes nothing.
+-- Text put into a buffer piece by piece.
 use mathlib.Core.List.{List, [], _∷_, _++_}
 use mathlib.Core.Path.{_≡_, refl, sym, ap, _∙_}
 use Prim.Native.Nat.{ℕ, _+_, _≤_, _<_}

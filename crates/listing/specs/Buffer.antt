@@ -1,4 +1,4 @@
--- What the functions that put text into a buffer promise. Assumes nothing.
+-- What the functions that put text into a buffer promise.
 use mathlib.Core.List.{List}
 use mathlib.Core.Path.{_≡_}
 use Prim.Native.Nat.{ℕ, _+_}

@@ -1,5 +1,4 @@
 -- The text of the programs, as ASCII bytes: numbers and lines. Document 01, "Packer and unpacker": "Hex is lower case."
--- Assumes nothing.
 use mathlib.Core.Bool.{cond}
 use mathlib.Core.List.{List, [], _∷_, _++_}
 use Prim.Native.Char.{code}

@@ -1,4 +1,4 @@
--- What `pack` gives in each case, for the function that computes it. Assumes nothing.
+-- What `pack` gives in each case, for the function that computes it.
 use mathlib.Core.Bool.{or-true}
 use mathlib.Core.List.{List}
 use mathlib.Core.Path.{_≡_, sym, subst, refl, _∙_}

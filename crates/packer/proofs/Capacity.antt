@@ -1,5 +1,5 @@
 -- How many words a log is packed to: never more than the output holds, and at most 8,192, so that an output of that
--- length is never too short. Assumes nothing.
+-- length is never too short.
 use mathlib.Core.Bool.{Bool, true, false, cond, _||_}
 use mathlib.Core.List.{List}
 use mathlib.Core.Path.{_≡_, refl}

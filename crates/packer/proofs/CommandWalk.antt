@@ -1,4 +1,4 @@
--- A command of a log, write by write. Assumes nothing.
+-- A command of a log, write by write.
 use mathlib.Core.Bool.{Bool, true, false, cond}
 use mathlib.Core.List.{List, [], _∷_, _++_}
 use mathlib.Core.Path.{_≡_, refl, sym, ap, _∙_}

@@ -1,5 +1,5 @@
 -- The commands of one command word, taken from a log one by one, and packed words group by group: the invariants of the
--- loops that measure. Assumes nothing.
+-- loops that measure.
 use mathlib.Core.Bool.{Bool, false}
 use mathlib.Core.List.{List, [], _∷_, _++_, append-assoc, append-nil}
 use mathlib.Core.Logic.{_⊎_, inl, inr}

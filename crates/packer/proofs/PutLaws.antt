@@ -1,5 +1,5 @@
 -- The pass that writes a log's packed words: what is still to come of an accepted log, the room for it, and the
--- invariants of its two loops. Assumes nothing.
+-- invariants of its two loops.
 use mathlib.Core.Bool.{Bool, true, false}
 use mathlib.Core.List.{List, [], _∷_, _++_, append-nil}
 use mathlib.Core.Logic.{_⊎_, inl, inr}

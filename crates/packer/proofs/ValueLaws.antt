@@ -1,4 +1,4 @@
--- The values of a log's port writes, and the loop that stores some of them. Assumes nothing.
+-- The values of a log's port writes, and the loop that stores some of them.
 use mathlib.Core.List.{List, [], _∷_, _++_}
 use mathlib.Core.Path.{_≡_, refl, sym, ap, _∙_}
 use Prim.Native.Nat.{ℕ, suc, _+_, _*_, _≤_, _<_}

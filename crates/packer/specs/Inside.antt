@@ -1,5 +1,5 @@
 -- What the functions inside the packer require and promise, of a log from one of its port writes on: nothing here is
--- cited by a contract outside. Assumes nothing.
+-- cited by a contract outside.
 use mathlib.Core.List.{List, [], _∷_}
 use mathlib.Core.Logic.{_⊎_}
 use mathlib.Core.Path.{_≡_}

@@ -1,5 +1,5 @@
 -- An engine that shows where its members stand. The k-th number or array of the record, from 1 on, has the mark k: k in
--- its lowest and in its highest byte, and minus that where it is signed. Every flag is set. Assumes nothing.
+-- its lowest and in its highest byte, and minus that where it is signed. Every flag is set.
 use mathlib.Core.Bool.{true}
 use mathlib.Core.List.{List}
 use Prim.Native.Nat.{ℕ, _*_, _-_}

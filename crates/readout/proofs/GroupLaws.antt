@@ -1,4 +1,4 @@
--- Groups of k elements of a list. Assumes nothing.
+-- Groups of k elements of a list.
 use mathlib.Core.List.{List, [], _∷_}
 use mathlib.Core.Path.{_≡_, refl, sym, ap, _∙_}
 use Prim.Native.Nat.{ℕ, zero, suc, _+_, _-_, _*_, _≤_, _<_}

@@ -1,4 +1,4 @@
--- Signed numbers and lines of numbers: what their text is, and how long. Assumes nothing.
+-- Signed numbers and lines of numbers: what their text is, and how long.
 use mathlib.Core.Bool.{true, false, true≢false}
 use mathlib.Core.List.{List, [], _∷_, _++_}
 use mathlib.Core.Path.{_≡_, refl, sym, ap, subst, _∙_}

@@ -1,4 +1,4 @@
--- How long each text of an engine is. Assumes nothing.
+-- How long each text of an engine is.
 use mathlib.Core.Bool.{Bool, true, false, cond}
 use mathlib.Core.List.{List, [], _∷_, _++_}
 use mathlib.Core.Path.{_≡_, refl, ap, _∙_}

@@ -1,4 +1,4 @@
--- Signed numbers as text, and numbers in a line. Assumes nothing.
+-- Signed numbers as text, and numbers in a line.
 use mathlib.Core.List.{List, [], _∷_, _++_}
 use Prim.Native.Nat.{ℕ, zero, suc}
 use lib.IntN.{ℤ, pos, negsuc}

@@ -1,5 +1,5 @@
 -- The text of an engine and the caller's two buffers, as the program `replay` prints it: one item a line, its name
--- first; numbers in decimal, words as eight hex digits. Assumes nothing.
+-- first; numbers in decimal, words as eight hex digits.
 use mathlib.Core.Bool.{Bool, cond}
 use mathlib.Core.List.{List, [], _∷_, _++_}
 use Prim.Native.Nat.{ℕ}

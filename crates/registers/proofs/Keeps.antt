@@ -1,4 +1,4 @@
--- Clearing keeps the record sound. Assumes nothing.
+-- Clearing keeps the record sound.
 use mathlib.Core.Bool.{true, false}
 use mathlib.Core.Path.{_≡_}
 use native.Mathlib.Omega.{arith}

@@ -1,11 +1,11 @@
 // Runs a packed list, or a log of port writes, from standard input on a started engine, and prints how many were taken,
 // the refusal if there was one, and the engine with both lists as they were left.
 // Arguments: `list` or `log`, then optionally the rooms for vertices and polygons in decimal.
-use arguments::Source;
-use arguments::room_of;
-use arguments::source_of;
 use libc::STDIN_FILENO;
 use libc::STDOUT_FILENO;
+use replays::Source;
+use replays::room_of;
+use replays::source_of;
 use state::Counts;
 
 // The rooms where none are given.

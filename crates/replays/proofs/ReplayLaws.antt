@@ -1,5 +1,4 @@
--- A run keeps what its report asks: the engine sound, the buffers long enough, no more taken than there is. Assumes
--- nothing.
+-- A run keeps what its report asks: the engine sound, the buffers long enough, no more taken than there is.
 use mathlib.Core.Bool.{Bool, true, false, and-eq-true-iff}
 use mathlib.Core.List.{List}
 use mathlib.Core.Path.{_≡_, refl, sym, ap, _∙_}

@@ -1,5 +1,4 @@
 -- What the program `replay` writes for what it is given: the run of a packed list or of a log on a started engine.
--- Assumes nothing.
 use mathlib.Core.Bool.{Bool, true, false, cond, _&&_}
 use mathlib.Core.List.{List, [], _++_}
 use mathlib.Core.Path.{_≡_}
@@ -15,8 +14,8 @@ use Rattle.execute.specs.Call.{machineOf}
 use Rattle.feeding.specs.Feed.{Fed, feedAs}
 use Rattle.listing.specs.Text.{ascii, numberLine, refusedLine}
 use Rattle.readout.specs.Readout.{machineText}
-use Rattle.arguments.specs.declared.Source.{Source}
-use Rattle.arguments.specs.declared.Source.the-variants.{List as WordList, Log, Neither}
+use Rattle.replays.specs.declared.Source.{Source}
+use Rattle.replays.specs.declared.Source.the-variants.{List as WordList, Log, Neither}
 
 -- ---- a run; `log`: the input is a log, else packed words
 

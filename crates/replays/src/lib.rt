@@ -1,4 +1,5 @@
-// What the program `replay` writes: the run of a packed list or of a log on a started engine.
+// What the program `replay` is told by its arguments (`replay list|log [VERTICES POLYGONS]`), and what it writes: the
+// run of a packed list or of a log on a started engine.
 ghost use mathlib.Core.Path.{_≡_};
 ghost use mathlib.Core.Bool.{true};
 ghost use Prim.Native.Nat.{_+_, _≤_};
@@ -9,8 +10,8 @@ ghost use Rattle.polygons.specs.Buffers.{longEnough};
 ghost use Rattle.execute.specs.Call.{machineOf};
 ghost use Rattle.feeding.specs.Feed.{feedAs, fedOf};
 ghost use Rattle.listing.specs.Buffer.{Puts};
+ghost use Rattle.replays.specs.Arguments.{isDigit, sourceOf, roomOf};
 ghost use Rattle.replays.specs.Replay.{isInput, refusalText, fedText, replay, replayAs, Reports};
-use arguments::Source;
 use feeding::Fed;
 use feeding::feed_as;
 use listing::put_bytes;
@@ -20,6 +21,57 @@ use readout::put_engine;
 use state::Counts;
 use state::Engine;
 use stream::words_of;
+
+// What standard input holds: packed words, or a log of port writes.
+pub enum Source {
+    List,
+    Log,
+    Neither,
+}
+
+// The source that an argument names.
+pub fn source_of(name: &[u8]) -> Source
+    ensures { λ r. ⌜ r ≡ sourceOf (now (name .entry)) ⌝ }
+{
+    if check::same(name, b"list") {
+        return Source::List;
+    }
+    if check::same(name, b"log") {
+        return Source::Log;
+    }
+    Source::Neither
+}
+
+// Whether a byte is a decimal digit.
+fn is_digit(byte: u8) -> bool
+    ensures { λ r. ⌜ r ≡ isDigit byte ⌝ }
+{
+    if byte < b'0' {
+        return false;
+    }
+    byte <= b'9'
+}
+
+// The room that an argument gives: one to nine decimal digits; 0, which is no room, for any other text.
+pub fn room_of(digits: &[u8]) -> usize
+    ensures { λ r. ⌜ r ≡ roomOf (now (digits .entry)) ⌝ }
+{
+    if 9 < digits.len() {
+        return 0;
+    }
+    // no digit leaves the 0
+    let mut room: usize = 0;
+    let mut i = 0;
+    while i < digits.len() {
+        let byte = digits[i];
+        if !is_digit(byte) {
+            return 0;
+        }
+        room = 10 * room + (byte - b'0') as usize;
+        i += 1;
+    }
+    room
+}
 
 // Room for the longest report: a line of at most 17 bytes, one of 30, and the engine's text of 433,602. What it holds is
 // free.

@@ -1,4 +1,4 @@
--- The report of a call's output, from the answer and the output buffer. Assumes nothing.
+-- The report of a call's output, from the answer and the output buffer.
 use mathlib.Core.List.{List}
 use mathlib.Core.Path.{_≡_, sym, ap, _∙_}
 use Prim.Native.Nat.{ℕ, _≤_}

@@ -1,5 +1,5 @@
 -- What the program `pack` writes for what it reads, both as bytes: the first line `words N`, then N lines of eight
--- lower-case hex digits; or document 01's line of a refusal. Assumes nothing.
+-- lower-case hex digits; or document 01's line of a refusal.
 use mathlib.Core.List.{List}
 use Prim.Native.Nat.{ℕ}
 use Rattle.stream.specs.Output.{Output, onBytes}

@@ -1,5 +1,4 @@
 -- What the program `unpack` writes for what it reads, both as bytes: document 01, "Packer and unpacker".
--- Assumes nothing.
 use mathlib.Core.List.{List}
 use Prim.Native.Nat.{ℕ}
 use Rattle.stream.specs.Read.{writes}

@@ -1,5 +1,5 @@
 -- Document 01, "Rows to check", those marked P: what the definitions give, beside what the row says. One claim covers
--- the table, and each of its rows holds by computing the definitions. Assumes nothing.
+-- the table, and each of its rows holds by computing the definitions.
 use mathlib.Core.Bool.{Bool, true, false, cond}
 use mathlib.Core.List.{List, [], _∷_, _++_, map}
 use mathlib.Core.Path.{_≡_, refl}

@@ -1,4 +1,4 @@
--- The open list and its number. Assumes nothing.
+-- The open list and its number.
 use mathlib.Core.Bool.{Bool, true, false, not, _||_}
 use mathlib.Core.Path.{_≡_, refl, sym, _∙_}
 use Prim.Native.Nat.{ℕ, zero, suc}

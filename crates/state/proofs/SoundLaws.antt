@@ -1,5 +1,4 @@
 -- Laws of soundness: the ranges of the transform part, the parts of a sound record, and that a start gives a sound one.
--- Assumes nothing.
 use mathlib.Core.Bool.{Bool, true, false, cond, and-eq-true-iff}
 use mathlib.Core.Path.{_≡_, refl, ap, _∙_}
 use Prim.Native.Nat.{ℕ, _≤_}

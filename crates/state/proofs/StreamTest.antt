@@ -1,4 +1,4 @@
--- The soundness of a stream from the tests that code makes. Assumes nothing.
+-- The soundness of a stream from the tests that code makes.
 use mathlib.Core.Bool.{Bool, true, false, cond}
 use mathlib.Core.List.{List}
 use mathlib.Core.Path.{_≡_, refl, sym, ap, _∙_}

@@ -1,5 +1,5 @@
 -- The fresh engine, and what a start answers. Document 01, Matrices: "Fresh: all matrices unit, a stack of 496 numbers
--- of zero for each of position and vector, other slots and registers zero, mode 0, no list open." Assumes nothing.
+-- of zero for each of position and vector, other slots and registers zero, mode 0, no list open."
 use mathlib.Core.Bool.{Bool, false, cond, _&&_}
 use mathlib.Core.List.{List}
 use Prim.Native.Nat.{ℕ}

@@ -1,4 +1,4 @@
--- The open list by its number, as the record has it: an exported function takes no enum. Assumes nothing.
+-- The open list by its number, as the record has it: an exported function takes no enum.
 use mathlib.Core.Bool.{Bool, true, false}
 use mathlib.Core.List.{List, [], _∷_}
 use Prim.Native.Nat.{ℕ}

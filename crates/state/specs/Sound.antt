@@ -1,5 +1,5 @@
 -- Sound is document 01's word for a record that calls take: its numbers are in their ranges and its parts fit each
--- other ("Numbers a call can refuse with", Sound). Assumes nothing.
+-- other ("Numbers a call can refuse with", Sound).
 use mathlib.Core.Bool.{Bool, true, false, _&&_, _||_}
 use mathlib.Core.List.{List}
 use Prim.Native.Nat.{ℕ}

@@ -1,4 +1,4 @@
--- Parts of the record with one field changed, and what calls answer. Assumes nothing.
+-- Parts of the record with one field changed, and what calls answer.
 use mathlib.Core.Bool.{Bool}
 use mathlib.Core.List.{List}
 use Prim.Native.Nat.{ℕ}

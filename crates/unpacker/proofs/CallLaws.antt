@@ -1,4 +1,4 @@
--- What `unpackFrom` gives in each case, for the function that computes it. Assumes nothing.
+-- What `unpackFrom` gives in each case, for the function that computes it.
 use mathlib.Core.List.{List}
 use mathlib.Core.Path.{_≡_, refl, _∙_}
 use Prim.Native.Nat.{ℕ, _≤_, _<_}

@@ -1,5 +1,5 @@
 -- How many numbers a list is unpacked to: never more than the output holds, and at most 32,768, so that an output of
--- that length is never too short. Assumes nothing.
+-- that length is never too short.
 use mathlib.Core.Bool.{Bool, true, false, cond}
 use mathlib.Core.List.{List, []}
 use mathlib.Core.Logic.{_⊎_, inl, inr, ⊎-elim}

@@ -1,4 +1,4 @@
--- How many words the commands of a command word take, and how many port writes they are. Assumes nothing.
+-- How many words the commands of a command word take, and how many port writes they are.
 use mathlib.Core.Bool.{Bool, true, false, cond}
 use mathlib.Core.List.{List, [], _∷_}
 use mathlib.Core.Path.{_≡_, refl, sym, ap, _∙_}

@@ -1,4 +1,4 @@
--- The pass that measures a list: the invariant of its loop. Assumes nothing.
+-- The pass that measures a list: the invariant of its loop.
 use mathlib.Core.Bool.{true, false}
 use mathlib.Core.List.{List, [], _++_, append-nil}
 use mathlib.Core.Path.{_≡_, refl, sym, ap, _∙_}

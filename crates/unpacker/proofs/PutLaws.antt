@@ -1,4 +1,4 @@
--- The pass that writes a list's port writes: the invariants of its three loops. Assumes nothing.
+-- The pass that writes a list's port writes: the invariants of its three loops.
 use mathlib.Core.Bool.{Bool, true, false, cond}
 use mathlib.Core.List.{List, [], _∷_, _++_, append-assoc, append-nil}
 use mathlib.Core.Path.{_≡_, refl, sym, ap, _∙_}

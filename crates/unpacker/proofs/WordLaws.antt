@@ -1,5 +1,4 @@
 -- A command word of a list, read with the words behind it: refused, or its commands and then the rest of the list.
--- Assumes nothing.
 use mathlib.Core.Bool.{Bool, true, false, cond}
 use mathlib.Core.List.{List, [], _∷_, _++_, append-assoc}
 use mathlib.Core.Path.{_≡_, refl, sym, ap, _∙_}

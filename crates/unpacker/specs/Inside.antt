@@ -1,5 +1,5 @@
 -- What the functions inside the unpacker require and promise, of one command word and the words behind it: nothing here
--- is cited by a contract outside. Assumes nothing.
+-- is cited by a contract outside.
 use mathlib.Core.Bool.{Bool, false}
 use mathlib.Core.List.{List, [], _∷_}
 use mathlib.Core.Path.{_≡_}

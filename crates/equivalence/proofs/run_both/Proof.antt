@@ -1,4 +1,4 @@
--- `equivalence::run_both` meets its contract. Assumes nothing.
+-- `equivalence::run_both` meets its contract.
 use mathlib.Core.Path.{sym}
 use lib.Seq.{length-take-le}
 use borrow.Author.Needs.{needs}

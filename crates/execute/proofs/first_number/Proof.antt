@@ -1,4 +1,4 @@
--- `execute::first_number` meets its contract. Assumes nothing.
+-- `execute::first_number` meets its contract.
 use mathlib.Core.Path.{_≡_, sym, _∙_}
 use mathlib.Core.Bool.{true}
 use borrow.Author.Tests.{not-true, not-false}

@@ -1,4 +1,4 @@
--- `extremes::power` meets its contract. Assumes nothing.
+-- `extremes::power` meets its contract.
 use Prim.Native.Nat.{_≤_, _-_}
 use borrow.Author.Needs.{needs}
 use Rattle.extremes.proofs.power.Statement.{statement}

@@ -1,4 +1,4 @@
--- `extremes::print_short` meets its contract. Assumes nothing.
+-- `extremes::print_short` meets its contract.
 use borrow.Author.Needs.{needs}
 use mir.Syntax.{w16, w32}
 use Rattle.lowbits.proofs.Read.{widens}

@@ -1,4 +1,4 @@
--- `listing::put_number_line` meets its contract. Assumes nothing.
+-- `listing::put_number_line` meets its contract.
 use native.Mathlib.Omega.{arith}
 use borrow.Author.Needs.{needs}
 use Rattle.listing.proofs.PutLaws.{puts-both}

@@ -1,4 +1,4 @@
--- `listing::put_ports` meets its contract. Assumes nothing.
+-- `listing::put_ports` meets its contract.
 use native.Mathlib.Omega.{arith}
 use borrow.Author.Needs.{needs}
 use Rattle.stream.proofs.UnpackLaws.{length-writes}

@@ -1,4 +1,4 @@
--- `listing::put_words` meets its contract. Assumes nothing.
+-- `listing::put_words` meets its contract.
 use native.Mathlib.Omega.{arith}
 use borrow.Author.Needs.{needs}
 use Rattle.listing.specs.Text.{ascii, wordsText}

@@ -1,4 +1,4 @@
--- `listing::put_write` meets its contract. Assumes nothing.
+-- `listing::put_write` meets its contract.
 use native.Mathlib.Omega.{arith}
 use borrow.Author.Needs.{needs}
 use Rattle.listing.specs.Text.{writeLine}

@@ -1,4 +1,4 @@
--- `packer::all_written` meets its contract. Assumes nothing.
+-- `packer::all_written` meets its contract.
 use mathlib.Core.Path.{sym, _∙_}
 use Prim.Native.Nat.{_-_}
 use native.Mathlib.Omega.{arith}

@@ -1,4 +1,4 @@
--- `packer::measure` meets its contract. Assumes nothing.
+-- `packer::measure` meets its contract.
 use mathlib.Core.Path.{_∙_}
 use Prim.Native.Nat.{_-_, _≤_, _<_}
 use native.Mathlib.Omega.{arith}

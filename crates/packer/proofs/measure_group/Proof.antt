@@ -1,4 +1,4 @@
--- `packer::measure_group` meets its contract. Assumes nothing.
+-- `packer::measure_group` meets its contract.
 use mathlib.Core.Logic.{⊎-elim, inl, inr}
 use Prim.Native.Nat.{_+_, _-_, _≤_}
 use native.Mathlib.Omega.{arith}

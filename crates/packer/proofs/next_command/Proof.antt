@@ -1,4 +1,4 @@
--- `packer::next_command` meets its contract. Assumes nothing.
+-- `packer::next_command` meets its contract.
 use mathlib.Core.Path.{sym, _∙_}
 use native.Mathlib.Omega.{arith}
 use borrow.Author.Needs.{needs}

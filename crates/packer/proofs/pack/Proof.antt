@@ -1,4 +1,4 @@
--- `packer::pack` meets its contract. Assumes nothing.
+-- `packer::pack` meets its contract.
 use native.Mathlib.Omega.{arith}
 use lib.ListN.{length}
 use borrow.Author.Needs.{needs}

@@ -1,4 +1,4 @@
--- `packer::pack_bytes` meets its contract. Assumes nothing.
+-- `packer::pack_bytes` meets its contract.
 use mathlib.Core.Path.{sym, ap, subst, _∙_}
 use Prim.Native.Nat.{_<_}
 use native.Mathlib.Omega.{arith}

@@ -1,4 +1,4 @@
--- `packer::put_group` meets its contract. Assumes nothing.
+-- `packer::put_group` meets its contract.
 use mathlib.Core.Logic.{_⊎_, ⊎-elim, inl, inr}
 use mathlib.Core.Path.{_≡_, sym, ap, _∙_}
 use Prim.Native.Nat.{_-_, _*_, _≤_, _<_}

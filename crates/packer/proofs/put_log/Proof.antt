@@ -1,4 +1,4 @@
--- `packer::put_log` meets its contract. Assumes nothing.
+-- `packer::put_log` meets its contract.
 use Prim.Native.Nat.{_-_}
 use native.Mathlib.Omega.{arith}
 use Rattle.packer.proofs.PutLaws.{PuttingLog, put-log-start, group-fits, put-log-next, put-log-more, put-log-end}

@@ -1,4 +1,4 @@
--- `packer::put_values` meets its contract. Assumes nothing.
+-- `packer::put_values` meets its contract.
 use mathlib.Core.Path.{_≡_, refl, _∙_}
 use Prim.Native.Nat.{_-_}
 use native.Mathlib.Omega.{arith}

@@ -1,4 +1,4 @@
--- `probe::probe_marks` meets its contract. Assumes nothing.
+-- `probe::probe_marks` meets its contract.
 use borrow.Author.Needs.{needs}
 use Rattle.probe.proofs.probe_marks.Statement.{statement}
 use Rattle.probe.proofs.probe_marks.Tie as tie

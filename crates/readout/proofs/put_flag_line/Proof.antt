@@ -1,4 +1,4 @@
--- `readout::put_flag_line` meets its contract. Assumes nothing.
+-- `readout::put_flag_line` meets its contract.
 use borrow.Author.Needs.{needs}
 use Rattle.readout.proofs.put_flag_line.Statement.{statement}
 use Rattle.readout.proofs.put_flag_line.Tie as tie

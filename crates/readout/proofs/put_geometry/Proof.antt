@@ -1,4 +1,4 @@
--- `readout::put_geometry` meets its contract. Assumes nothing.
+-- `readout::put_geometry` meets its contract.
 use native.Mathlib.Omega.{arith}
 use Rattle.listing.specs.Text.{ascii}
 use Rattle.listing.proofs.PutLaws.{puts-both}

@@ -1,4 +1,4 @@
--- `readout::put_list` meets its contract. Assumes nothing.
+-- `readout::put_list` meets its contract.
 use Rattle.readout.specs.Readout.{listLine}
 use borrow.Author.Needs.{needs}
 use Rattle.readout.proofs.put_list.Statement.{statement}

@@ -1,4 +1,4 @@
--- `readout::put_lists` meets its contract. Assumes nothing.
+-- `readout::put_lists` meets its contract.
 use Prim.Native.Nat.{_<_}
 use native.Mathlib.Omega.{arith}
 use Rattle.listing.proofs.PutLaws.{puts-both}

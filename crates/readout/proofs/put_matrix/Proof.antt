@@ -1,4 +1,4 @@
--- `readout::put_matrix` meets its contract. Assumes nothing.
+-- `readout::put_matrix` meets its contract.
 use native.Mathlib.Omega.{arith}
 use Rattle.readout.proofs.NumberLaws.{numbers-line-end}
 use borrow.Author.Needs.{needs}

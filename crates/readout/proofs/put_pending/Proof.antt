@@ -1,4 +1,4 @@
--- `readout::put_pending` meets its contract. Assumes nothing.
+-- `readout::put_pending` meets its contract.
 use native.Mathlib.Omega.{arith}
 use Rattle.listing.specs.Text.{ascii}
 use Rattle.listing.proofs.LineLaws.{number-line-end}

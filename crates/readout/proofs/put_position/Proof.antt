@@ -1,4 +1,4 @@
--- `readout::put_position` meets its contract. Assumes nothing.
+-- `readout::put_position` meets its contract.
 use mir.Syntax.{w16, w32}
 use Rattle.lowbits.proofs.Read.{widens, widened}
 use Rattle.readout.specs.Readout.{positionLine}

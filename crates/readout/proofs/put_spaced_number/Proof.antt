@@ -1,4 +1,4 @@
--- `readout::put_spaced_number` meets its contract. Assumes nothing.
+-- `readout::put_spaced_number` meets its contract.
 use Rattle.readout.specs.Numbers.{spacedNumber}
 use Rattle.listing.proofs.PutLaws.{puts-both}
 use mir.Syntax.{w32}

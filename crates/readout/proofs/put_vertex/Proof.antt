@@ -1,4 +1,4 @@
--- `readout::put_vertex` meets its contract. Assumes nothing.
+-- `readout::put_vertex` meets its contract.
 use Prim.Native.Nat.{_-_}
 use native.Mathlib.Omega.{arith}
 use lib.ListN.{length, drop, length-take, length-drop}

@@ -1,4 +1,4 @@
--- `readout::waiting_vertex` meets its contract. Assumes nothing.
+-- `readout::waiting_vertex` meets its contract.
 use native.Mathlib.Omega.{arith}
 use mathlib.Core.Path.{_≡_, refl}
 use borrow.Author.Needs.{needs}

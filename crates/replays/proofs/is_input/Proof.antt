@@ -1,4 +1,4 @@
--- `replays::is_input` meets its contract. Assumes nothing.
+-- `replays::is_input` meets its contract.
 use mathlib.Core.Path.{refl}
 use Rattle.replays.specs.Replay.{isInput}
 use borrow.Author.Needs.{needs}

@@ -1,4 +1,4 @@
--- `replays::put_fed` meets its contract. Assumes nothing.
+-- `replays::put_fed` meets its contract.
 use native.Mathlib.Omega.{arith}
 use Rattle.listing.specs.Text.{ascii}
 use Rattle.listing.proofs.PutLaws.{puts-both}

@@ -1,4 +1,4 @@
--- `replays::put_refusal` meets its contract. Assumes nothing.
+-- `replays::put_refusal` meets its contract.
 use native.Mathlib.Omega.{arith}
 use Rattle.listing.proofs.LineLaws.{length-refusedLine}
 use Rattle.replays.proofs.ReplayLaws.{no-refusal, one-refusal}

@@ -1,4 +1,4 @@
--- `replays::put_replay` meets its contract. Assumes nothing.
+-- `replays::put_replay` meets its contract.
 use native.Mathlib.Omega.{arith}
 use mathlib.Core.Bool.{true}
 use mathlib.Core.Path.{_≡_, refl, sym, ap, _∙_}

@@ -1,4 +1,4 @@
--- `replays::put_run` meets its contract. Assumes nothing.
+-- `replays::put_run` meets its contract.
 use mathlib.Core.Path.{_∙_, ap}
 use native.Mathlib.Omega.{arith}
 use lib.ListN.{length}

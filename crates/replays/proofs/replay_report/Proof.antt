@@ -1,4 +1,4 @@
--- `replays::replay_report` meets its contract. Assumes nothing.
+-- `replays::replay_report` meets its contract.
 use native.Mathlib.Omega.{arith}
 use mathlib.Core.Path.{refl}
 use Rattle.polygons.specs.Buffers.{buffered}

@@ -1,4 +1,4 @@
--- `reports::unpack_report` meets its contract. Assumes nothing.
+-- `reports::unpack_report` meets its contract.
 use mathlib.Core.Path.{sym}
 use native.Mathlib.Omega.{arith}
 use lib.ListN.{take}

@@ -1,4 +1,4 @@
--- `state::is_sound_in` meets its contract. Assumes nothing.
+-- `state::is_sound_in` meets its contract.
 use borrow.Author.Needs.{needs}
 use Rattle.state.proofs.is_sound_in.Statement.{statement}
 use Rattle.state.proofs.is_sound_in.Tie as tie

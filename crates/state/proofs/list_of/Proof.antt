@@ -1,4 +1,4 @@
--- `state::list_of` meets its contract. Assumes nothing.
+-- `state::list_of` meets its contract.
 use mathlib.Core.Path.{sym}
 use Rattle.state.specs.List.{listOf}
 use Rattle.state.proofs.ListLaws.{closed-else}

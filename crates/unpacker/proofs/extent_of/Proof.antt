@@ -1,4 +1,4 @@
--- `unpacker::extent_of` meets its contract. Assumes nothing.
+-- `unpacker::extent_of` meets its contract.
 use mathlib.Core.Bool.{true}
 use mathlib.Core.Path.{_≡_, sym, _∙_}
 use Prim.Native.Nat.{_+_, _/_, _%_, _<_}

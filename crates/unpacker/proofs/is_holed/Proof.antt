@@ -1,4 +1,4 @@
--- `unpacker::is_holed` meets its contract. Assumes nothing.
+-- `unpacker::is_holed` meets its contract.
 use mathlib.Core.Path.{sym, ap, _∙_}
 use borrow.Author.Needs.{needs}
 use Rattle.commands.specs.Commands.{hole}

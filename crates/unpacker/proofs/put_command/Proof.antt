@@ -1,4 +1,4 @@
--- `unpacker::put_command` meets its contract. Assumes nothing.
+-- `unpacker::put_command` meets its contract.
 use mathlib.Core.Path.{_≡_, refl, _∙_}
 use Prim.Native.Nat.{_+_, _*_, _-_}
 use native.Mathlib.Numerals.{add-one}

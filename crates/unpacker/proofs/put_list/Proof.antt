@@ -1,4 +1,4 @@
--- `unpacker::put_list` meets its contract. Assumes nothing.
+-- `unpacker::put_list` meets its contract.
 use Prim.Native.Nat.{_-_}
 use native.Mathlib.Omega.{arith}
 use lib.ListN.{length}

@@ -1,4 +1,4 @@
--- `unpacker::put_word` meets its contract. Assumes nothing.
+-- `unpacker::put_word` meets its contract.
 use mathlib.Core.Bool.{true, false}
 use mathlib.Core.Path.{_≡_, sym, _∙_}
 use Prim.Native.Nat.{_%_}

@@ -1,4 +1,4 @@
--- `unpacker::unpack_bytes` meets its contract. Assumes nothing.
+-- `unpacker::unpack_bytes` meets its contract.
 use mathlib.Core.Path.{sym, ap, subst, _∙_}
 use Prim.Native.Nat.{_<_}
 use native.Mathlib.Omega.{arith}

@@ -1,4 +1,4 @@
--- `unpacker::unpack_from` meets its contract. Assumes nothing.
+-- `unpacker::unpack_from` meets its contract.
 use native.Mathlib.Omega.{arith}
 use lib.ListN.{length}
 use borrow.Author.Needs.{needs}

@@ -74,7 +74,7 @@ pub struct FeedAnswer {
     pub engine: Record,
 }
 
-#[link(name = "bridge", kind = "static")]
+#[link(name = "nauvelppi", kind = "static")]
 extern "C" {
     fn nauvelppi_pack(log: *const u8, log_size: usize, output: *mut u8, output_size: usize) -> Answer;
     fn nauvelppi_unpack(list: *const u8, list_size: usize, output: *mut u8, output_size: usize) -> Answer;

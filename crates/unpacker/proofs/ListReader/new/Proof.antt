@@ -2,7 +2,6 @@
 -- passed and 0, in the result's local.
 -- A `&[u32]` is Copy, so what it owns is had twice: once for words at exit, and once inside the result, beside the
 -- facts of place.
--- Assumes nothing.
 use mathlib.Core.Path.{refl}
 use Prim.Native.Nat.{ℕ}
 use mathlib.Core.List.{List, [], _∷_}

@@ -4,7 +4,6 @@
 -- The reader is Copy: what it owns is had twice, one copy is kept whole for the exit. The output's borrow is given up
 -- to the callee at its own lifetime, share and name, and what `unpack_from` says of its last list is what this
 -- function says of it.
--- Assumes nothing.
 use mathlib.Core.Path.{_≡_, refl}
 use Prim.Native.Nat.{ℕ, _<_, _^_}
 use mathlib.Core.List.{List, [], _∷_}
