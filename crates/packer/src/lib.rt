@@ -12,6 +12,7 @@ ghost use Rattle.stream.specs.Pack.{packedWords, orNone, IsRead, pack as Pack·
 ghost use Rattle.stream.specs.Unpack.{writesFor};
 ghost use Rattle.packer.specs.Inside.{IsLog, values, AtPort, Finds, Sizes, GroupFits, PutGroup};
 use commands::Count;
+use commands::Table;
 use commands::command_at_in;
 use commands::command_of_port;
 use commands::known_count_in;
@@ -74,7 +75,7 @@ fn complete_command(count: usize) -> Found
 }
 
 // The command whose port the i-th write goes to, which takes `count` parameters: whether all of them are written.
-fn all_written(table: &[u8; 256], log: &[u32], pairs: usize, i: usize, count: usize) -> Found
+fn all_written(table: &Table, log: &[u32], pairs: usize, i: usize, count: usize) -> Found
     requires { ⌜ now table ≡ parameterTable ⌝ }
     requires { ⌜ IsLog (now log) pairs ⌝ }
     requires { ⌜ i < pairs ⌝ }
@@ -101,7 +102,7 @@ fn all_written(table: &[u8; 256], log: &[u32], pairs: usize, i: usize, count: us
 }
 
 // The command that begins at the i-th write. "first bad pair (5 before 6), 8"
-fn next_command(table: &[u8; 256], log: &[u32], pairs: usize, i: usize) -> Found
+fn next_command(table: &Table, log: &[u32], pairs: usize, i: usize) -> Found
     requires { ⌜ now table ≡ parameterTable ⌝ }
     requires { ⌜ IsLog (now log) pairs ⌝ }
     requires { ⌜ i < pairs ⌝ }
@@ -132,7 +133,7 @@ fn not_a_group(number: u32, place: u32) -> Group
 }
 
 // The commands from the i-th write on that one command word holds: four, or the last ones.
-fn measure_group(table: &[u8; 256], log: &[u32], pairs: usize, i: usize) -> Group
+fn measure_group(table: &Table, log: &[u32], pairs: usize, i: usize) -> Group
     requires { ⌜ now table ≡ parameterTable ⌝ }
     requires { ⌜ IsLog (now log) pairs ⌝ }
     requires { ⌜ i < pairs ⌝ }
@@ -162,7 +163,7 @@ fn measure_group(table: &[u8; 256], log: &[u32], pairs: usize, i: usize) -> Grou
 }
 
 // What the log is answered with where the output is long enough; nothing is stored yet.
-fn measure(table: &[u8; 256], log: &[u32], pairs: usize) -> OutputAnswer
+fn measure(table: &Table, log: &[u32], pairs: usize) -> OutputAnswer
     requires { ⌜ now table ≡ parameterTable ⌝ }
     requires { ⌜ IsLog (now log) pairs ⌝ }
     ensures { λ r. ⌜ r ≡ measured packedWords (logCommands (writes (now (log .entry)))) ⌝ }
@@ -225,7 +226,7 @@ fn with_byte(word: u32, byte: u8, slot: usize) -> u32
 // The packed words of one command word's commands, those from the i-th write of an accepted log on, into the buffer
 // from `to` on.
 fn put_group(
-    table: &[u8; 256],
+    table: &Table,
     log: &[u32],
     pairs: usize,
     i: usize,
@@ -265,7 +266,7 @@ fn put_group(
 }
 
 // The packed words of an accepted log.
-fn put_log(table: &[u8; 256], log: &[u32], pairs: usize, buffer: &mut [u32])
+fn put_log(table: &Table, log: &[u32], pairs: usize, buffer: &mut [u32])
     requires { ⌜ now table ≡ parameterTable ⌝ }
     requires { ⌜ IsLog (now log) pairs ⌝ }
     requires { ⌜ IsRead (logCommands (writes (now log))) ⌝ }

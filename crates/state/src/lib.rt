@@ -12,6 +12,7 @@ ghost use Rattle.state.specs.Fresh.{freshTransform, freshGeometry, fresh
 ghost use Rattle.state.specs.Fresh.{roomAllowed, roomsAllowed};
 ghost use Rattle.state.specs.Sound.{soundTransform, isClosed, needed, coloured, soundWaiting, soundGeometry};
 ghost use Rattle.state.specs.Sound.{pendingOf, soundStream, sound};
+use commands::Table;
 use commands::command_bytes_in;
 use commands::count_in;
 use commands::has_hole;
@@ -395,7 +396,7 @@ fn first_of(next: u8, port: u8) -> u8
     if next == 0 { port } else { next }
 }
 
-fn is_sound_stream(table: &[u8; 256], s: Stream) -> bool
+fn is_sound_stream(table: &Table, s: Stream) -> bool
     requires { ⌜ now table ≡ parameterTable ⌝ }
     ensures { λ r. ⌜ r ≡ soundStream s ⌝ }
 {
@@ -412,7 +413,7 @@ fn is_sound_stream(table: &[u8; 256], s: Stream) -> bool
 
 // Whether a record of these parts is sound, by a table that was laid out before; the stacks are not looked at. For the
 // crates above this one.
-pub fn is_sound_in(table: &[u8; 256], t: Transform, g: Geometry, s: Stream) -> bool
+pub fn is_sound_in(table: &Table, t: Transform, g: Geometry, s: Stream) -> bool
     requires { ⌜ now table ≡ parameterTable ⌝ }
     ensures { λ r. ⌜ r ≡ ((soundTransform t && soundGeometry g) && soundStream s) ⌝ }
 {
@@ -431,7 +432,7 @@ pub fn is_sound(e: Engine) -> bool
 }
 
 // A packed word has commands or its dummy to come. For the crates above this one: number 1 does not fall.
-pub fn is_packed_pending(table: &[u8; 256], s: Stream) -> bool
+pub fn is_packed_pending(table: &Table, s: Stream) -> bool
     requires { ⌜ now table ≡ parameterTable ⌝ }
     requires { ⌜ soundStream s ≡ true ⌝ }
     ensures { λ r. ⌜ r ≡ packedPending (pendingOf s) ⌝ }

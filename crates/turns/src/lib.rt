@@ -10,6 +10,7 @@ ghost use Rattle.stream.specs.Command.{write};
 ghost use Rattle.stream.specs.Read.{writes};
 ghost use Rattle.stream.specs.Step.{wordStep, portStep};
 ghost use Rattle.turns.specs.Inside.{Fit, Turned, dueOf, isPacked, Held, Writable, itemsIn, TurnedAs};
+use commands::Table;
 use commands::command_at_in;
 use commands::command_bytes_in;
 use commands::count_in;
@@ -100,13 +101,7 @@ fn behind(queue: u32, dummy: bool) -> Begun
 }
 
 // A turn on the command at the front of the queue.
-fn parameters_turn(
-    table: &[u8; 256],
-    b: Begun,
-    words: &[u32],
-    i: usize,
-    held: &mut [u32; 32],
-) -> Turn
+fn parameters_turn(table: &Table, b: Begun, words: &[u32], i: usize, held: &mut [u32; 32]) -> Turn
     requires { ⌜ now table ≡ parameterTable ⌝ }
     requires { ⌜ Fit b × (known (b .queue % 256) ≡ true) ⌝ }
     requires { ⌜ (i ≤ length (now words)) × (length (now held) ≡ 32) ⌝ }
@@ -132,7 +127,7 @@ fn parameters_turn(
 }
 
 // A turn over packed words, from the i-th on.
-fn word_turn(table: &[u8; 256], b: Begun, words: &[u32], i: usize, held: &mut [u32; 32]) -> Turn
+fn word_turn(table: &Table, b: Begun, words: &[u32], i: usize, held: &mut [u32; 32]) -> Turn
     requires { ⌜ now table ≡ parameterTable ⌝ }
     requires { ⌜ Fit b × (i ≤ length (now words)) × (length (now held) ≡ 32) ⌝ }
     ensures { λ r. ⌜ Turned wordStep (now (words .entry)) i b (now (held .entry)) r (now (held .exit)) ⌝ }
@@ -197,7 +192,7 @@ fn hold_writes(
 
 // A turn on writes to the port of `byte`, which can be written.
 fn values_turn(
-    table: &[u8; 256],
+    table: &Table,
     byte: u8,
     b: Begun,
     log: &[u32],
@@ -234,7 +229,7 @@ fn values_turn(
 
 // A turn over the port writes of a log, from the i-th on; `packed`: a packed word is pending.
 fn write_turn(
-    table: &[u8; 256],
+    table: &Table,
     packed: bool,
     b: Begun,
     log: &[u32],
@@ -266,7 +261,7 @@ fn write_turn(
 // ---- either
 
 // A packed word is pending. For the crates above this one.
-pub fn is_packed(table: &[u8; 256], b: Begun) -> bool
+pub fn is_packed(table: &Table, b: Begun) -> bool
     requires { ⌜ now table ≡ parameterTable ⌝ }
     ensures { λ r. ⌜ r ≡ isPacked b ⌝ }
 {
@@ -282,7 +277,7 @@ pub fn items_in(log: bool, size: usize) -> usize
 
 // A turn over the items from the i-th on; `packed`, for a log: a packed word is pending. For the crates above this one.
 pub fn turn_at(
-    table: &[u8; 256],
+    table: &Table,
     log: bool,
     packed: bool,
     b: Begun,

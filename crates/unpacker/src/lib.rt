@@ -15,6 +15,7 @@ ghost use Rattle.stream.specs.Pack.{IsRead};
 ghost use Rattle.stream.specs.Unpack.{writesTo, writesFor, logOf, commandsLog, unpackFrom};
 ghost use Rattle.stream.specs.Unpack.{unpack as Unpack·unpack};
 ghost use Rattle.unpacker.specs.Inside.{Extends, logFrom, WordFits, PutWord};
+use commands::Table;
 use commands::command_bytes_in;
 use commands::count_in;
 use commands::has_hole;
@@ -45,7 +46,7 @@ struct Places {
 }
 
 // The extent of the commands of a command word, up to its first byte that is none.
-fn extent_of(table: &[u8; 256], word: u32) -> Extent
+fn extent_of(table: &Table, word: u32) -> Extent
     requires { ⌜ now table ≡ parameterTable ⌝ }
     ensures { λ r. ⌜ Extends word r ⌝ }
 {
@@ -68,7 +69,7 @@ fn extent_of(table: &[u8; 256], word: u32) -> Extent
 }
 
 // Whether a word has a hole. Most words end with their commands, and 0 has none.
-fn is_holed(table: &[u8; 256], word: u32) -> bool
+fn is_holed(table: &Table, word: u32) -> bool
     requires { ⌜ now table ≡ parameterTable ⌝ }
     ensures { λ r. ⌜ r ≡ hole (commandBytes word) ⌝ }
 {
@@ -79,7 +80,7 @@ fn is_holed(table: &[u8; 256], word: u32) -> bool
 }
 
 // What the list from a place on is answered with where the output is long enough; nothing is stored yet.
-fn measure(table: &[u8; 256], words: &[u32], place: usize) -> OutputAnswer
+fn measure(table: &Table, words: &[u32], place: usize) -> OutputAnswer
     requires { ⌜ now table ≡ parameterTable ⌝ }
     requires { ⌜ length (now words) ≤ 8192 ⌝ }
     ensures { λ r. ⌜ r ≡ measured commandsLog (listCommands place (now (words .entry))) ⌝ }
@@ -139,7 +140,7 @@ fn put_command(
 }
 
 // The port writes of the commands of the i-th word, a command word of an accepted list, into the buffer from `to` on.
-fn put_word(table: &[u8; 256], words: &[u32], i: usize, buffer: &mut [u32], to: usize) -> Places
+fn put_word(table: &Table, words: &[u32], i: usize, buffer: &mut [u32], to: usize) -> Places
     requires { ⌜ now table ≡ parameterTable ⌝ }
     requires { ⌜ WordFits (now words) i to (now buffer) ⌝ }
     ensures { λ r. ⌜ PutWord (now (words .entry)) i to (now (buffer .entry)) (now (buffer .exit)) r ⌝ }
@@ -163,7 +164,7 @@ fn put_word(table: &[u8; 256], words: &[u32], i: usize, buffer: &mut [u32], to: 
 }
 
 // The port writes of an accepted list from a place on.
-fn put_list(table: &[u8; 256], words: &[u32], place: usize, buffer: &mut [u32])
+fn put_list(table: &Table, words: &[u32], place: usize, buffer: &mut [u32])
     requires { ⌜ now table ≡ parameterTable ⌝ }
     requires { ⌜ IsRead (listCommands place (now words)) ⌝ }
     requires { ⌜ length (logFrom place (now words)) ≤ length (now buffer) ⌝ }
