@@ -14,8 +14,7 @@ use Rattle.state.specs.declared.Core.{Core}
 use Rattle.state.specs.declared.Engine.{Engine}
 use Rattle.state.specs.declared.Answer.{Answer}
 use Rattle.polygons.specs.Buffers.{Buffered}
-use Rattle.execute.specs.Execute.{buffersLong}
-use Rattle.execute.specs.Call.{exec, coreSound, machineOf, replyOf, GivenBack}
+use Rattle.execute.specs.Call.{engineRules, machineOf, replyOf, GivenBack}
 use Rattle.feeding.specs.Feed.{Fed, fed, oneMore, feed}
 
 module _ {State A : Type 0} (call : Machine State → A → Reply State) (m : Machine State) (a : A) where
@@ -38,12 +37,13 @@ module _ {State A : Type 0} (call : Machine State → A → Reply State) (m : Ma
 
 -- the place of a call is 0
 module _ {A : Type 0} (step : Pending → A → Step) (m : Machine (Buffered Core)) (a : A) where
-  no-place : callBy exec coreSound buffersLong step m a .place ≡ 0
+  no-place : callBy engineRules step m a .place ≡ 0
   unfolding callBy
   no-place =
-      by (coreSound (m .state) && soundPending (m .pending)) (buffersLong (m .state)) (step (m .pending) a)
+      by (engineRules .sound (m .state) && soundPending (m .pending)) (engineRules .longEnough (m .state))
+      (step (m .pending) a)
     where
-      by : (s l : Bool) (t : Step) → cond s (cond l (afterStep exec m t) (reply 2 m)) (reply 1 m) .place ≡ 0
+      by : (s l : Bool) (t : Step) → cond s (cond l (afterStep engineRules m t) (reply 2 m)) (reply 1 m) .place ≡ 0
       by true true (refused n) = refl
       by true true (accepted p cs) = refl
       by true false t = refl
@@ -53,13 +53,13 @@ module _ {A : Type 0} (step : Pending → A → Step) (m : Machine (Buffered Cor
 module _ {A : Type 0} (step : Pending → A → Step) (e : Engine) (vertices : List ℤ) (polygons : List ℕ) (a : A)
     (taken : ℕ) (r : Answer) (vs : List ℤ) (ps : List ℕ)
     (is : fed taken (r .number) (machineOf (r .engine) vs ps)
-    ≡ feed (callBy exec coreSound buffersLong step) (machineOf e vertices polygons) (a ∷ []))
+    ≡ feed (callBy engineRules step) (machineOf e vertices polygons) (a ∷ []))
     (place : r .place ≡ 0) where
   abbrev x : Reply (Buffered Core)
-  x = callBy exec coreSound buffersLong step (machineOf e vertices polygons) a
+  x = callBy engineRules step (machineOf e vertices polygons) a
 
   told : fed taken (r .number) (machineOf (r .engine) vs ps) ≡ fed (cond (eqb (x .number) 0) 1 0) (x .number) (x .left)
-  told = is ∙ one (callBy exec coreSound buffersLong step) (machineOf e vertices polygons) a
+  told = is ∙ one (callBy engineRules step) (machineOf e vertices polygons) a
 
   pub one-reply : replyOf r vs ps ≡ x
   one-reply = λ i. record {
@@ -72,5 +72,5 @@ module _ {A : Type 0} (step : Pending → A → Step) (e : Engine) (vertices : L
   one-given-back back n =
       back n
       (ap (λ (f : Fed (Buffered Core)). f .taken) told
-      ∙ none (callBy exec coreSound buffersLong step) (machineOf e vertices polygons) a
+      ∙ none (callBy engineRules step) (machineOf e vertices polygons) a
       (λ z. n (ap (λ (f : Fed (Buffered Core)). f .number) told ∙ z)))

@@ -15,9 +15,8 @@ use Rattle.state.specs.declared.Core.{Core}
 use Rattle.state.proofs.SoundLaws.{sound-parts}
 use Rattle.state.specs.Sound.{soundStream}
 use Rattle.polygons.specs.Buffers.{Buffered, buffered}
-use Rattle.execute.specs.Execute.{buffersLong}
 use Rattle.execute.proofs.Keeps.{execute-kept, long-enough-kept}
-use Rattle.execute.specs.Call.{exec, coreSound, machineOf}
+use Rattle.execute.specs.Call.{exec, engineRules, machineOf}
 use Rattle.execute.proofs.Calls.{sound-core}
 use Rattle.equivalence.specs.EqualEnds.{transformOf, stacksOf, geometryOf, waitingOf, EqualEnds}
 use Rattle.equivalence.specs.Demand3.{EngineDemand3Holds}
@@ -147,8 +146,7 @@ all-listed a b r e =
 -- ---- the claim
 
 -- a command keeps the engine sound and the buffers long enough
-keeps : (c : Command) (s : Buffered Core) → Complete c → Usable coreSound buffersLong s
-    → Usable coreSound buffersLong (exec c s)
+keeps : (c : Command) (s : Buffered Core) → Complete c → Usable engineRules s → Usable engineRules (exec c s)
 keeps c s w u =
     let k = execute-kept (c .byte) (c .parameters) s (u .is-sound) in
     record { is-sound = k .sound; is-long-enough = long-enough-kept s (exec c s) k (u .is-long-enough) }
@@ -157,9 +155,9 @@ pub engine-demand3 : EngineDemand3Holds
 unfolding soundStream
 engine-demand3 capacity log e vertices polygons accepted s =
     let m = machineOf e vertices polygons in
-    let usable : Usable coreSound buffersLong (m .state) =
+    let usable : Usable engineRules (m .state) =
     record { is-sound = sound-core e (s .is-sound); is-long-enough = s .long-enough } in
-    let d = demand3 exec coreSound buffersLong keeps capacity log m accepted usable
+    let d = demand3 engineRules keeps capacity log m accepted usable
     (sound-parts e (s .is-sound) .stream) (s .none-pending) in
     record {
       writes-taken = d .writes-taken;

@@ -17,8 +17,7 @@ use Rattle.state.specs.Sound.{soundCore, pendingOf, soundStream, sound}
 use Rattle.state.proofs.SoundLaws.{sound-parts}
 use Rattle.polygons.specs.Buffers.{Buffered, buffered}
 use Rattle.execute.proofs.Keeps.{CoreKept, core-kept-more, execute-kept}
-use Rattle.execute.specs.Execute.{buffersLong}
-use Rattle.execute.specs.Call.{exec, coreSound, machineOf, wordReply, portReply}
+use Rattle.execute.specs.Call.{exec, engineRules, machineOf, wordReply, portReply}
 use Rattle.execute.proofs.Calls.{sound-core}
 
 -- an engine and its buffers after a call
@@ -46,10 +45,10 @@ module _ (e : Engine) (vertices : List ℤ) (polygons : List ℕ) where
       (record { sound = sound-core e h; rooms = refl; vertices = refl; polygons = refl }, sound-parts e h .stream)
 
   pub kept-by-word : (m : Machine (Buffered Core)) (w : ℕ) → Kept m → Kept (wordReply m w .left)
-  kept-by-word = call-keeps exec (CoreKept start) more coreSound buffersLong wordStep word-keeps
+  kept-by-word = call-keeps engineRules (CoreKept start) more wordStep word-keeps
 
   pub kept-by-port : (m : Machine (Buffered Core)) (w : Write) → Kept m → Kept (portReply m w .left)
-  kept-by-port = call-keeps exec (CoreKept start) more coreSound buffersLong portStep port-keeps
+  kept-by-port = call-keeps engineRules (CoreKept start) more portStep port-keeps
 
   -- an engine and its buffers, from what they stand for
   pub engine-kept : (f : Engine) (vs : List ℤ) (ps : List ℕ) → Kept (machineOf f vs ps)

@@ -15,8 +15,7 @@ use Rattle.state.specs.Sound.{soundCore, pendingOf, soundStream, sound}
 use Rattle.state.proofs.SoundLaws.{sound-parts, parts-core}
 use Rattle.state.proofs.GeometryLaws.{geometry-ranges, room-limits}
 use Rattle.polygons.specs.Buffers.{Buffered, longEnough}
-use Rattle.execute.specs.Execute.{buffersLong}
-use Rattle.execute.specs.Call.{exec, coreSound, machineOf}
+use Rattle.execute.specs.Call.{engineRules, machineOf}
 use Rattle.execute.specs.Inside.{firstNumber}
 
 -- ---- numbers 1 and 2
@@ -71,13 +70,13 @@ module _ {A : Type 0} (step : Pending → A → Step) (e : Engine) (vertices : L
   number = firstNumber e (length vertices) (length polygons)
 
   -- number 1 or 2
-  pub refused-first : (number ≡ 0 → ⊥) → callBy exec coreSound buffersLong step m a ≡ reply number m
+  pub refused-first : (number ≡ 0 → ⊥) → callBy engineRules step m a ≡ reply number m
   unfolding firstNumber callBy sound soundStream
   refused-first =
       by (soundCore (e .core) && soundStream (e .stream)) (isLong e (length vertices) (length polygons))
     where
       by : (s l : Bool) → (_≡_ {A = ℕ} (cond s (cond l 0 2) 1) 0 → ⊥)
-          → cond s (cond l (afterStep exec m (step (pendingOf (e .stream)) a)) (reply 2 m)) (reply 1 m)
+          → cond s (cond l (afterStep engineRules m (step (pendingOf (e .stream)) a)) (reply 2 m)) (reply 1 m)
           ≡ reply (cond s (cond l 0 2) 1) m
       by true true n = absurd (n refl)
       by true false n = refl

@@ -5,7 +5,7 @@ use mathlib.Core.Path.{_≡_}
 use Prim.Native.Nat.{ℕ}
 use lib.IntN.{ℤ}
 use Rattle.stream.specs.Command.{Command, Write}
-use Rattle.stream.specs.Call.{Machine, Reply, machine, wordCall, portCall}
+use Rattle.stream.specs.Call.{Rules, Machine, Reply, machine, wordCall, portCall}
 use Rattle.state.specs.declared.Core.{Core}
 use Rattle.state.specs.declared.Engine.{Engine}
 use Rattle.state.specs.declared.Answer.{Answer}
@@ -20,6 +20,10 @@ exec c s = execute (c .byte) (c .parameters) s
 -- number 1 does not fall on the core
 abbrev pub coreSound : Buffered Core → Bool
 coreSound s = soundCore (s .part)
+
+-- what the calls ask of this engine
+abbrev pub engineRules : Rules (Buffered Core)
+engineRules = record { exec = exec; sound = coreSound; longEnough = buffersLong }
 
 -- what the engine's record and the two buffers stand for
 abbrev pub machineOf : Engine → List ℤ → List ℕ → Machine (Buffered Core)
@@ -36,8 +40,8 @@ GivenBack e r = (r .number ≡ 0 → ⊥) → r .engine ≡ e
 
 -- the word call: "1, 2, 4, 3 (3 only where a command word is due)"
 abbrev pub wordReply : Machine (Buffered Core) → ℕ → Reply (Buffered Core)
-wordReply = wordCall exec coreSound buffersLong
+wordReply = wordCall engineRules
 
 -- the port write call: "1, 2, 5, 4, 6"
 abbrev pub portReply : Machine (Buffered Core) → Write → Reply (Buffered Core)
-portReply = portCall exec coreSound buffersLong
+portReply = portCall engineRules

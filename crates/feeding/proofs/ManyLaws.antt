@@ -15,12 +15,11 @@ use Rattle.stream.specs.Call.{Machine, Reply, machine, reply, run, afterStep, c
 use Rattle.state.specs.declared.Core.{Core}
 use Rattle.state.specs.declared.Engine.{Engine}
 use Rattle.polygons.specs.Buffers.{Buffered}
-use Rattle.execute.specs.Execute.{buffersLong}
 use Rattle.turns.specs.declared.Begun.{Begun}
 use Rattle.turns.specs.declared.Turn.{Turn}
 use Rattle.turns.specs.Inside.{AllTaken, no-item, one-item}
 use Rattle.turns.specs.Inside.{dueOf, pendingDue, givenBy, Turned}
-use Rattle.execute.specs.Call.{exec, coreSound}
+use Rattle.execute.specs.Call.{exec, engineRules}
 use Rattle.execute.specs.Inside.{firstNumber}
 use Rattle.execute.proofs.CallKeeps.{Kept}
 use Rattle.feeding.proofs.FeedLaws.{one-fed}
@@ -30,19 +29,19 @@ module _ (e : Engine) (vertices : List ℤ) (polygons : List ℕ)
     (first : firstNumber e (length vertices) (length polygons) ≡ 0)
     {A : Type 0} (step : Pending → A → Step)
     (keeps : (n : Machine (Buffered Core)) (a : A) → Kept e vertices polygons n
-    → Kept e vertices polygons (callBy exec coreSound buffersLong step n a .left)) (ws : List A) where
+    → Kept e vertices polygons (callBy engineRules step n a .left)) (ws : List A) where
   -- one item that is taken
   one-taken : (i : ℕ) (s : Buffered Core) (p q : Pending) (cs : List Command) (a : A)
-      → Between e vertices polygons (callBy exec coreSound buffersLong step) ws i (machine s p)
+      → Between e vertices polygons (callBy engineRules step) ws i (machine s p)
       → drop i ws ≡ a ∷ drop (i + 1) ws → step p a ≡ accepted q cs
-      → Between e vertices polygons (callBy exec coreSound buffersLong step) ws (i + 1) (machine (run exec cs s) q)
+      → Between e vertices polygons (callBy engineRules step) ws (i + 1) (machine (run exec cs s) q)
   one-taken i s p q cs a b next told =
       let n : Machine (Buffered Core) = machine s p in
-      let is : callBy exec coreSound buffersLong step n a ≡ reply 0 (machine (run exec cs s) q) =
+      let is : callBy engineRules step n a ≡ reply 0 (machine (run exec cs s) q) =
       usable-call step n a (b .kept .0 .sound) (b .kept .1) (still-long e vertices polygons first n (b .kept))
-      ∙ ap (afterStep exec n) told in
+      ∙ ap (afterStep engineRules n) told in
       record {
-        feeding = one-fed (callBy exec coreSound buffersLong step) (b .feeding) a next
+        feeding = one-fed (callBy engineRules step) (b .feeding) a next
             (reply 0 (machine (run exec cs s) q)) (sym is) refl;
         kept = subst (λ (r : Reply (Buffered Core)). Kept e vertices polygons (r .left)) is (keeps n a (b .kept));
       }
@@ -52,9 +51,9 @@ module _ (e : Engine) (vertices : List ℤ) (polygons : List ℕ)
 
   -- several
   pub many-taken : (l : List A) (i : ℕ) (s : Buffered Core) (p q : Pending) (cs : List Command) (r : List A)
-      → Between e vertices polygons (callBy exec coreSound buffersLong step) ws i (machine s p)
+      → Between e vertices polygons (callBy engineRules step) ws i (machine s p)
       → drop i ws ≡ l ++ r → AllTaken step p l q cs
-      → Between e vertices polygons (callBy exec coreSound buffersLong step) ws (i + length l)
+      → Between e vertices polygons (callBy engineRules step) ws (i + length l)
       (machine (run exec cs s) q)
   many-taken [] i s p q cs r b d no-item = rw (add-zero i) b
   many-taken (a ∷ l) i s p q cs r b d (one-item {q = m} {cs = xs} {ds = ys} t more) =
@@ -70,13 +69,13 @@ module _ (e : Engine) (vertices : List ℤ) (polygons : List ℕ)
     (first : firstNumber e (length vertices) (length polygons) ≡ 0)
     {A : Type 0} (step : Pending → A → Step)
     (keeps : (n : Machine (Buffered Core)) (a : A) → Kept e vertices polygons n
-    → Kept e vertices polygons (callBy exec coreSound buffersLong step n a .left)) (ws : List A)
+    → Kept e vertices polygons (callBy engineRules step n a .left)) (ws : List A)
     (i : ℕ) (b : Begun) (old : List ℕ) (r : Turn) (new : List ℕ) (u : Turned step ws i b old r new)
     (t : Buffered Core)
-    (at : Between e vertices polygons (callBy exec coreSound buffersLong step) ws i
+    (at : Between e vertices polygons (callBy engineRules step) ws i
     (machine (run exec (dueOf b) t) (pendingDue b old))) where
   -- the command that it gives has run, and those that are due then are to run
-  pub after-turn : Between e vertices polygons (callBy exec coreSound buffersLong step) ws (r .next)
+  pub after-turn : Between e vertices polygons (callBy engineRules step) ws (r .next)
       (machine (run exec (dueOf (r .begun)) (run exec (givenBy (r .command) new) t)) (pendingDue (r .begun) new))
   after-turn =
       let l : List A = take (u .many) (drop i ws) in
