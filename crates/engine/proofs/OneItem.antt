@@ -15,14 +15,14 @@ use Rattle.state.specs.declared.Engine.{Engine}
 use Rattle.state.specs.declared.Answer.{Answer}
 use Rattle.polygons.specs.Buffers.{Buffered}
 use Rattle.execute.specs.Call.{engineRules, machineOf, replyOf, GivenBack}
-use Rattle.feeding.specs.Feed.{Fed, fed, oneMore, feed}
+use Rattle.feeding.specs.Feed.{Fed, fed, oneMoreTaken, feed}
 
 module _ {State A : Type 0} (call : Machine State → A → Reply State) (m : Machine State) (a : A) where
   one : feed call m (a ∷ []) ≡ fed (cond (eqb (call m a .number) 0) 1 0) (call m a .number) (call m a .left)
   one = by (eqb (call m a .number) 0) refl
     where
       by : (t : Bool) → eqb (call m a .number) 0 ≡ t
-          → cond t (oneMore (fed 0 0 (call m a .left))) (fed 0 (call m a .number) (call m a .left))
+          → cond t (oneMoreTaken (fed 0 0 (call m a .left))) (fed 0 (call m a .number) (call m a .left))
           ≡ fed (cond t 1 0) (call m a .number) (call m a .left)
       by true is = ap (λ (n : ℕ). fed 1 n (call m a .left)) (sym (eqb-true (call m a .number) 0 is))
       by false is = refl

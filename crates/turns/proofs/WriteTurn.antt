@@ -21,7 +21,7 @@ use Rattle.stream.proofs.UnpackLaws.{length-writes}
 use Rattle.stream.proofs.WriteLaws.{writes-at}
 use Rattle.turns.specs.declared.Begun.{Begun}
 use Rattle.turns.specs.declared.Turn.{Turn}
-use Rattle.turns.specs.Inside.{dueOf, pendingDue, isPacked, Fit, Writable, writeAt}
+use Rattle.turns.specs.Inside.{dueOf, pendingDue, isPacked, Fit, Writable, pairAt}
 use Rattle.turns.specs.Inside.{Held, AllTaken, no-item, one-item, Turned}
 use Rattle.turns.proofs.HeldLaws.{same-length, next-one}
 use Rattle.turns.proofs.ManyLaws.{some-taken, all-taken}
@@ -29,7 +29,7 @@ use Rattle.turns.proofs.TurnLaws.{begun, turn, turned-on, turned-ended,
 use Rattle.turns.proofs.TurnLaws.{given-none, given-some, pending-some, due-takes, due-idle, pending-idle}
 use Rattle.turns.proofs.TurnLaws.{pending-behind, fit-behind}
 
-pub write-is : (log : List ℕ) (i : ℕ) → i < length log / 2 → getD (writes log) i (write 0 0) ≡ writeAt log i
+pub write-is : (log : List ℕ) (i : ℕ) → i < length log / 2 → getD (writes log) i (write 0 0) ≡ pairAt log i
 write-is log i h = writes-at log i (omega (arith, h))
 
 -- ---- a packed word is pending, or not
@@ -80,7 +80,7 @@ module _ (b : Begun) (log old : List ℕ) (i : ℕ) (f : Fit b) (due : dueOf b �
 
   module _ (w : i < length log / 2) (c : ℕ) (at : c ≡ commandAt (getD log (2 * i) 0)) where
     write-refused : {r : Turn} (n : ℕ) → r ≡ turn i b 0 n true → (n ≡ 0 → ⊥)
-        → portStep (pendingDue b old) (writeAt log i) ≡ refused n → Turned portStep (writes log) i b old r old
+        → portStep (pendingDue b old) (pairAt log i) ≡ refused n → Turned portStep (writes log) i b old r old
     write-refused n is d told =
         turned-refused f due n is d (omega (arith, w, length-writes log)) (write 0 0) (rw (write-is log i w) told)
 

@@ -103,8 +103,8 @@ abbrev pub itemsIn : Bool → ℕ → ℕ
 itemsIn log size = cond log (size / 2) size
 
 -- port write i of a log
-abbrev pub writeAt : List ℕ → ℕ → Write
-writeAt ws i = write (getD ws (2 * i) 0) (getD ws (2 * i + 1) 0)
+abbrev pub pairAt : List ℕ → ℕ → Write
+pairAt ws i = write (getD ws (2 * i) 0) (getD ws (2 * i + 1) 0)
 
 -- a turn over the words as they are, or as the port writes of a log
 abbrev pub TurnedAs : Bool → List ℕ → ℕ → Begun → List ℕ → Turn → List ℕ → Type 0
