@@ -14,6 +14,7 @@ use Rattle.state.specs.declared.Engine.{Engine}
 use Rattle.state.specs.Sound.{soundCore, pendingOf, soundStream, sound}
 use Rattle.state.proofs.SoundLaws.{sound-parts, parts-core}
 use Rattle.state.proofs.GeometryLaws.{geometry-ranges, room-limits}
+use Rattle.state.specs.Sizes.{mostVertices, mostPolygons}
 use Rattle.polygons.specs.Buffers.{Buffered, longEnough}
 use Rattle.execute.specs.Call.{engineRules, machineOf}
 use Rattle.execute.specs.Inside.{firstNumber}
@@ -38,7 +39,7 @@ module _ (e : Engine) (vertices polygons : ℕ) where
 
 -- the rooms of a sound engine
 pub sound-rooms : (e : Engine) → sound e ≡ true
-    → (e .core .registers .geometry .rooms .vertices ≤ 6144) × (e .core .registers .geometry .rooms .polygons ≤ 2048)
+    → (e .core .registers .geometry .rooms .vertices ≤ mostVertices) × (e .core .registers .geometry .rooms .polygons ≤ mostPolygons)
 sound-rooms e h = room-limits _ _ (geometry-ranges (e .core .registers .geometry) (sound-parts e h .geometry) .rooms)
 
 pub sound-core : (e : Engine) → sound e ≡ true → soundCore (e .core) ≡ true

@@ -17,7 +17,7 @@ use Rattle.state.specs.declared.Waiting.{Waiting}
 use Rattle.state.specs.declared.Geometry.{Geometry}
 use Rattle.state.specs.declared.Registers.{Registers}
 use Rattle.state.specs.declared.Core.{Core}
-use Rattle.state.specs.Fresh.{vertexWidth}
+use Rattle.state.specs.Sizes.{vertexWidth}
 use Rattle.state.specs.Clip.{clipOf}
 use Rattle.polygons.specs.Buffers.{Buffered, polygonWidth}
 use Rattle.registers.specs.Registers.{statusWord}

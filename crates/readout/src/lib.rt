@@ -6,7 +6,7 @@ ghost use Prim.Native.Nat.{_+_, _*_, _≤_, _<_};
 ghost use lib.ListN.{length, getD};
 ghost use Rattle.stream.specs.Call.{machine};
 ghost use Rattle.state.specs.List.{waitingVertices};
-ghost use Rattle.state.specs.Fresh.{vertexWidth};
+ghost use Rattle.state.specs.Sizes.{vertexWidth};
 ghost use Rattle.state.specs.Sound.{soundTransform, soundGeometry, pendingOf, soundStream, sound};
 ghost use Rattle.polygons.specs.Buffers.{buffered, polygonWidth, longEnough};
 ghost use Rattle.listing.specs.Text.{numberLine};

@@ -17,6 +17,7 @@ use Rattle.state.specs.declared.Engine.{Engine}
 use Rattle.state.specs.declared.Answer.{Answer}
 use Rattle.state.specs.List.{numberOf}
 use Rattle.state.specs.With.{withRooms, answered}
+use Rattle.state.specs.Sizes.{vertexWidth, mostVertices, mostPolygons}
 
 -- n zeros
 abbrev pub zeros : ℕ → List ℤ
@@ -37,10 +38,6 @@ freshTransform =
 
 abbrev pub freshStacks : Stacks
 freshStacks = record { positions = zeros 496; vectors = zeros 496 }
-
--- how many numbers a vertex takes: document 01, Vertices and polygons: "five numbers each (X, Y, Z, W, colour)"
-abbrev pub vertexWidth : ℕ
-vertexWidth = 5
 
 abbrev noVertex : List ℤ
 noVertex = zeros vertexWidth
@@ -80,7 +77,7 @@ roomAllowed limit n = leb 1 n && leb n limit
 
 -- document 01, Vertices and polygons: "Rooms are chosen at start: 1 to 6,144 vertices, 1 to 2,048 polygons."
 abbrev pub roomsAllowed : ℕ → ℕ → Bool
-roomsAllowed vertices polygons = roomAllowed 6144 vertices && roomAllowed 2048 polygons
+roomsAllowed vertices polygons = roomAllowed mostVertices vertices && roomAllowed mostPolygons polygons
 
 -- document 01: "11: room out of range"; "a refused start gives the fresh engine with rooms 1 and 1"
 unfoldable pub start : ℕ → ℕ → Answer

@@ -18,6 +18,7 @@ use Rattle.state.specs.declared.Stream.{Stream}
 use Rattle.state.specs.declared.Engine.{Engine}
 use Rattle.state.specs.List.{isList, listOf}
 use Rattle.state.specs.Fresh.{roomsAllowed}
+use Rattle.state.specs.Sizes.{colours}
 
 -- "every number in the range given here": modes 0 to 3, "one level S from 0 to 31", "level 0 or 1"
 unfoldable pub soundTransform : Transform → Bool
@@ -45,7 +46,7 @@ needed QuadStrip = 4
 
 -- a vertex's last number is its colour; document 01: "20h keeps bits 0-14 as colour"
 unfoldable pub coloured : List ℤ → Bool
-coloured v = leZ (pos 0) (getD v 4 (pos 0)) && ltZ (getD v 4 (pos 0)) (pos 32768)
+coloured v = leZ (pos 0) (getD v 4 (pos 0)) && ltZ (getD v 4 (pos 0)) (pos colours)
 
 -- "waiting vertices fewer than the open kind needs, none when closed"
 abbrev pub fewWait : OpenList → ℕ → Bool
@@ -63,7 +64,7 @@ soundWaiting w =
 -- the ranges of colour and rooms, and "used counts within rooms"
 unfoldable pub soundGeometry : Geometry → Bool
 soundGeometry g =
-    ltb (g .colour) 32768
+    ltb (g .colour) colours
     && soundWaiting (g .waiting)
     && roomsAllowed (g .rooms .vertices) (g .rooms .polygons)
     && leb (g .used .vertices) (g .rooms .vertices)

@@ -65,6 +65,14 @@ pub struct Coordinates {
 // How many numbers a vertex takes in the caller's buffer.
 pub const VERTEX_WIDTH: usize = 5;
 
+// The largest rooms.
+pub const MOST_VERTICES: usize = 6144;
+
+pub const MOST_POLYGONS: usize = 2048;
+
+// How many colours there are: 20h keeps 15 bits.
+pub const COLOURS: u32 = 32768;
+
 // A vertex as the caller's buffer holds it: X, Y, Z, W and colour.
 pub type VertexRecord = [i32; VERTEX_WIDTH];
 
@@ -228,7 +236,7 @@ fn room_allowed(limit: usize, n: usize) -> bool
 fn rooms_allowed(vertices: usize, polygons: usize) -> bool
     ensures { λ r. ⌜ r ≡ roomsAllowed vertices polygons ⌝ }
 {
-    room_allowed(6144, vertices) & room_allowed(2048, polygons)
+    room_allowed(MOST_VERTICES, vertices) & room_allowed(MOST_POLYGONS, polygons)
 }
 
 fn with_rooms(e: Engine, vertices: usize, polygons: usize) -> Engine
@@ -360,7 +368,7 @@ fn is_coloured(v: VertexRecord) -> bool
     ensures { λ r. ⌜ r ≡ coloured v ⌝ }
 {
     let z = v[4];
-    (0 <= z) & (z < 32768)
+    (0 <= z) & (z < COLOURS as i32)
 }
 
 fn is_sound_waiting(w: Waiting) -> bool
@@ -382,7 +390,7 @@ fn is_sound_geometry(g: Geometry) -> bool
     ensures { λ r. ⌜ r ≡ soundGeometry g ⌝ }
 {
     let w = g.waiting;
-    (g.colour < 32768)
+    (g.colour < COLOURS)
         & is_sound_waiting(w)
         & rooms_allowed(g.rooms.vertices, g.rooms.polygons)
         & (g.used.vertices <= g.rooms.vertices)
