@@ -11,7 +11,7 @@ use Rattle.stream.proofs.OutputLaws.{stored-words}
 use Rattle.state.specs.declared.Core.{Core}
 use Rattle.polygons.specs.Buffers.{Buffered}
 use Rattle.execute.specs.Call.{wordReply}
-use Rattle.equivalence.specs.Calls.{Lent, machineAt, Calls, none, one, AllZero, BothSides, CallsAgree}
+use Rattle.equivalence.specs.Calls.{Lent, machineAt, Calls, none, more, AllZero, BothSides, CallsAgree}
 use Rattle.equivalence.specs.Calls.{CallsDemand3}
 use Rattle.equivalence.proofs.Agree.{engine-demand3}
 
@@ -20,14 +20,14 @@ module _ {A : Type 0} {call : Machine (Buffered Core) → A → Reply (Buffered 
   calls-end : {s t : Lent} {l : List A} {numbers : List ℕ} → Calls call s l numbers t
       → machineAt t ≡ after call (machineAt s) l
   calls-end none = refl
-  calls-end (one {l = l} r vertices polygons e rest) =
+  calls-end (more {l = l} r vertices polygons e rest) =
       calls-end rest ∙ ap (λ (x : Reply (Buffered Core)). after call (x .left) l) e
 
   -- and each answers its number
   calls-taken : {s t : Lent} {l : List A} {numbers : List ℕ} → Calls call s l numbers t
       → AllTaken call (machineAt s) l → AllZero numbers
   calls-taken none h = tt
-  calls-taken (one {l = l} r vertices polygons e rest) h = (
+  calls-taken (more {l = l} r vertices polygons e rest) h = (
     ap (λ (x : Reply (Buffered Core)). x .number) e ∙ h .0,
     calls-taken rest (subst (λ (x : Reply (Buffered Core)). AllTaken call (x .left) l) (sym e) (h .1)),
   )

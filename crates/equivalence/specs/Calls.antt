@@ -37,7 +37,7 @@ machineAt s = machineOf (s .engine) (s .vertices) (s .polygons)
 pub data Calls {A : Type 0} (call : Machine (Buffered Core) → A → Reply (Buffered Core))
     : Lent → List A → List ℕ → Lent → Type 0 where
   none : {s : Lent} → Calls call s [] [] s
-  one : {s t : Lent} {a : A} {l : List A} {numbers : List ℕ} (r : Answer) (vertices : List ℤ) (polygons : List ℕ)
+  more : {s t : Lent} {a : A} {l : List A} {numbers : List ℕ} (r : Answer) (vertices : List ℤ) (polygons : List ℕ)
       → replyOf r vertices polygons ≡ call (machineAt s) a → Calls call (lent (r .engine) vertices polygons) l numbers t
       → Calls call s (a ∷ l) (r .number ∷ numbers) t
 

@@ -33,15 +33,15 @@ abbrev coordinate : ℕ → ℤ
 coordinate k = minus (0x0101 * k)
 
 -- projection or texture, by its three marks
-abbrev single : ℕ → ℕ → ℕ → Single
-single a b c = record { matrix = numbers 16 a; slot = numbers 16 b; level = mark64 c }
+abbrev markedSingle : ℕ → ℕ → ℕ → Single
+markedSingle a b c = record { matrix = numbers 16 a; slot = numbers 16 b; level = mark64 c }
 
 abbrev pub markedTransform : Transform
 markedTransform =
     record {
       pair = record { position = numbers 16 1; vector = numbers 16 2; level = mark64 3 };
-      projection = single 4 5 6;
-      texture = single 7 8 9;
+      projection = markedSingle 4 5 6;
+      texture = markedSingle 7 8 9;
       mode = mark32 10;
       error = true;
     }

@@ -15,8 +15,8 @@ use Rattle.stacks.specs.declared.StackCommand.{StackCommand}
 use Rattle.stacks.specs.declared.StackCommand.the-variants.{Push, Pop, Store, Restore}
 use Rattle.stacks.specs.Stack.{attempt, isSlot, stored, loaded, storedSingle, loadedSingle, runPair}
 
-abbrev pub moved : ℕ → Bool → Moved
-moved level failed = record { level = level; failed = failed }
+abbrev pub movedTo : ℕ → Bool → Moved
+movedTo level failed = record { level = level; failed = failed }
 
 -- ---- the matrices of their parts
 
