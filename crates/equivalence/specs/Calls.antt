@@ -47,7 +47,7 @@ AllZero [] = Unit {0}
 AllZero (n ∷ numbers) = (n ≡ 0) × AllZero numbers
 
 -- Both sides of a log, which was packed to these words: s is where the port writes start and t where the packed words
--- do.
+-- do (reading 28).
 pub record BothSides (log words : List ℕ) (s t : Lent) : Type 0 where
   pub start : Start (s .engine) (s .vertices) (s .polygons)
   pub equal-starts : machineAt s ≡ machineAt t

@@ -33,7 +33,7 @@ runRegisters (Geometry k) p s =
 -- "only carried: commands 21h, 22h, 2Ah, 2Bh, 30h to 34h, 60h and 70h to 72h take their parameters and change nothing
 -- else"
 runRegisters Carried p s = s
--- "Any other byte counts as 0, no command"
+-- "Any other byte counts as 0, no command" (reading 4)
 runRegisters NoCommand p s = s
 
 -- ---- every command

@@ -10,7 +10,7 @@ use Rattle.stream.specs.declared.OutputAnswer.{OutputAnswer}
 use Rattle.stream.specs.Output.{Output, refusal, onBytes, answerOf}
 
 -- A call f, of a capacity in words, on an output of so many bytes. 7: "byte slice or file not whole words"; the output
--- too, and before everything else
+-- too, and before everything else (reading 23)
 unfoldable pub onAllBytes : (ℕ → List ℕ → Output) → ℕ → List ℕ → Output
 onAllBytes f size input = cond (eqb (size % 4) 0) (onBytes (f (size / 4)) input) (refusal 7 0)
 

@@ -29,7 +29,7 @@ abbrev pub allDigits : List ℕ → Bool
 allDigits [] = true
 allDigits (d ∷ ds) = isDigit d && allDigits ds
 
--- whether a text is one to nine decimal digits
+-- whether a text is one to nine decimal digits (reading 30)
 unfoldable pub isDecimal : List ℕ → Bool
 isDecimal text = leb 1 (length text) && leb (length text) 9 && allDigits text
 

@@ -27,7 +27,7 @@ itemSize log = cond log 8 4
 unfoldable pub isInput : Bool → ℕ → Bool
 isInput log size = eqb (size % itemSize log) 0 && leb size 32768
 
--- only after a refusal: its number, and which word or write it was
+-- only after a refusal: its number, and which word or write it was (reading 29)
 unfoldable pub refusalText : ℕ → ℕ → List ℕ
 refusalText number place = cond (eqb number 0) [] (refusedLine number place)
 

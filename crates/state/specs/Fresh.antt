@@ -58,7 +58,7 @@ freshGeometry =
 unfoldable pub freshStream : Stream
 freshStream = record { queue = 0; held = replicate 32 0; count = 0; dummy = false; port = 0 }
 
--- the fresh engine, with rooms 1 and 1: only a start chooses others
+-- the fresh engine, with rooms 1 and 1: only a start chooses others (reading 8)
 unfoldable pub fresh : Engine
 fresh =
     record {

@@ -20,7 +20,7 @@ use Rattle.state.specs.List.{isList, listOf}
 use Rattle.state.specs.Fresh.{roomsAllowed}
 use Rattle.state.specs.Sizes.{colours}
 
--- "every number in the range given here": modes 0 to 3, "one level S from 0 to 31", "level 0 or 1"
+-- "every number in the range given here" (reading 14): modes 0 to 3, "one level S from 0 to 31", "level 0 or 1"
 unfoldable pub soundTransform : Transform → Bool
 soundTransform t =
     leb (t .mode) 3
@@ -73,7 +73,8 @@ soundGeometry g =
 unfoldable pub soundCore : Core → Bool
 soundCore c = soundTransform (c .registers .transform) && soundGeometry (c .registers .geometry)
 
--- what is pending in a stream: the commands of the rest of its word, and as many parameters as are held
+-- what is pending in a stream: the commands of the rest of its word, and as many parameters as are held (readings 15
+-- and 16)
 unfoldable pub pendingOf : Stream → Pending
 pendingOf s =
     record { queue = commandsOf (s .queue); held = take (s .count) (s .held); dummy = s .dummy; port = s .port }
