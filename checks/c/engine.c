@@ -49,12 +49,13 @@ static void start_checks(void)
 {
     started("start", VERTICES, POLYGONS, 0);
     started("start, smallest rooms", 1, 1, 0);
+    started("start, all vertices", SIZE_MAX, 1, 11);
+    /* document 01, row 11: "Rooms 6,144 and 2,048 accepted; 6,145 or 0 refused 11" */
     started("start, largest rooms", 6144, 2048, 0);
-    started("start, no vertices", 0, 1, 11);
-    started("start, no polygons", 1, 0, 11);
     started("start, too many vertices", 6145, 2048, 11);
     started("start, too many polygons", 6144, 2049, 11);
-    started("start, all vertices", SIZE_MAX, 1, 11);
+    started("start, no vertices", 0, 2048, 11);
+    started("start, no polygons", 6144, 0, 11);
 }
 
 /* ---- A list */

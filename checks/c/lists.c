@@ -115,6 +115,7 @@ static void pack_checks(void)
     static const uint32_t list[] = {0x00001510, 2, 0};
     on_words("pack", nauvelppi_pack, log, 4, 5, 0, 0, list, 3);
     on_words("pack, output just long enough", nauvelppi_pack, log, 4, 3, 0, 0, list, 3);
+    /* document 01, row 12: "Empty log packs to no words" */
     on_words("pack no writes", nauvelppi_pack, log, 0, 5, 0, 0, NULL, 0);
     on_words("pack no writes into none", nauvelppi_pack, log, 0, 0, 0, 0, NULL, 0);
 

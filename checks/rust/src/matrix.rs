@@ -7,15 +7,17 @@ pub const ONE: i32 = 4096;
 
 pub const UNIT: Matrix = [ONE, 0, 0, 0, 0, ONE, 0, 0, 0, 0, ONE, 0, 0, 0, 0, ONE];
 
-/// A row times a column: the exact sum, divided by 4096 rounding down, its low 32 bits as a signed number.
-///
-/// Each product fits 64 bits, the sum of four may not. The result is the bits 12 to 43 of the sum, and these are the
-/// same in the sum modulo 2^64, so that the sum may wrap.
+/// An exact sum, divided by 4096 rounding down, its low 32 bits as a signed number.
+#[inline]
+fn rounded(sum: i128) -> i32 {
+    (sum >> 12) as i32
+}
+
+/// A row times a column. Each product fits 64 bits, the sum of four may not.
 #[inline]
 fn dot(row: [i32; 4], column: [i32; 4]) -> i32 {
-    let product = |k: usize| i64::from(row[k]) * i64::from(column[k]);
-    let sum = product(0).wrapping_add(product(1)).wrapping_add(product(2)).wrapping_add(product(3));
-    (sum >> 12) as i32
+    let product = |k: usize| i128::from(row[k]) * i128::from(column[k]);
+    rounded(product(0) + product(1) + product(2) + product(3))
 }
 
 #[inline]
@@ -44,7 +46,7 @@ pub fn scale(by: [i32; 3], current: &Matrix) -> Matrix {
     let mut scaled = *current;
     for (row, factor) in scaled.chunks_exact_mut(4).zip(by) {
         for entry in row {
-            *entry = ((i64::from(*entry) * i64::from(factor)) >> 12) as i32;
+            *entry = rounded(i128::from(*entry) * i128::from(factor));
         }
     }
     scaled

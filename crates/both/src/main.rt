@@ -6,9 +6,7 @@ use feeding::Fed;
 use feeding::polygon_buffer;
 use feeding::vertex_buffer;
 use libc::STDIN_FILENO;
-use printing::print_hex;
-use printing::print_number;
-use printing::print_text;
+use libc::STDOUT_FILENO;
 use registers::status;
 use state::Engine;
 use stream::longest_list;
@@ -16,6 +14,22 @@ use stream::words_of;
 
 // The longest log, in bytes.
 const LONGEST: usize = 32768;
+
+fn print_text(text: &[u8]) {
+    io::write_all(STDOUT_FILENO, text);
+}
+
+// A name, then a number in decimal.
+fn print_number(name: &[u8], n: u64) {
+    print_text(name);
+    io::print_decimal(STDOUT_FILENO, n);
+}
+
+// A name, then a number as eight hex digits.
+fn print_hex(name: &[u8], n: u32) {
+    print_text(name);
+    io::print_hex(STDOUT_FILENO, n as u64, 8);
+}
 
 fn print_refused(number: u32, place: u32) {
     print_number(b"refused ", number as u64);

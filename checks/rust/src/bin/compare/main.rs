@@ -1,8 +1,9 @@
-//! Compares the compiled library and programs with the reference on random cases.
+//! Compares the compiled library and programs with the reference, first on fixed cases, then on random ones.
 //!
-//! `compare [CASES [SEED]]`: the same numbers give the same cases.
+//! `compare [CASES [SEED]]`: the same numbers give the same random cases.
 
 mod engines;
+mod extremes;
 mod generate;
 mod library;
 mod lists;
@@ -50,6 +51,13 @@ fn main() -> ExitCode {
         return ExitCode::FAILURE;
     };
     let mut tally = Tally::default();
+    let fixed = match extremes::run(&mut tally) {
+        Ok(count) => count,
+        Err(text) => {
+            println!("extremes: {text}");
+            return ExitCode::FAILURE;
+        }
+    };
     for case in 0..cases {
         let mut random = Random::new(seed, case);
         let (name, run) = kind(&mut random);
@@ -65,7 +73,7 @@ fn main() -> ExitCode {
         println!("compare: {text}");
         return ExitCode::FAILURE;
     }
-    println!("compare: {cases} cases agree");
+    println!("compare: {fixed} fixed and {cases} random cases agree");
     ExitCode::SUCCESS
 }
 
