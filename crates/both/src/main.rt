@@ -11,11 +11,9 @@ use printing::print_number;
 use printing::print_text;
 use registers::status;
 use state::Engine;
+use stream::is_input;
 use stream::longest_list;
 use stream::words_of;
-
-// The longest log, in bytes.
-const LONGEST: usize = 32768;
 
 fn print_refused(number: u32, place: u32) {
     print_number(b"refused ", number as u64);
@@ -63,10 +61,7 @@ fn print_both(log: &[u32]) {
 fn main() {
     let mut input = io::large_buffer();
     let read = io::read_full(STDIN_FILENO, &mut input);
-    if read % 4 != 0 {
-        return print_refused(7, 0);
-    }
-    if LONGEST < read {
+    if !is_input(true, read) {
         return print_refused(7, 0);
     }
     let log = words_of(&input[..read]);
