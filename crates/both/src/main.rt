@@ -9,11 +9,9 @@ use libc::STDIN_FILENO;
 use libc::STDOUT_FILENO;
 use registers::status;
 use state::Engine;
+use stream::is_input;
 use stream::longest_list;
 use stream::words_of;
-
-// The longest log, in bytes.
-const LONGEST: usize = 32768;
 
 fn print_text(text: &[u8]) {
     io::write_all(STDOUT_FILENO, text);
@@ -77,10 +75,7 @@ fn print_both(log: &[u32]) {
 fn main() {
     let mut input = io::large_buffer();
     let read = io::read_full(STDIN_FILENO, &mut input);
-    if read % 4 != 0 {
-        return print_refused(7, 0);
-    }
-    if LONGEST < read {
+    if !is_input(true, read) {
         return print_refused(7, 0);
     }
     let log = words_of(&input[..read]);

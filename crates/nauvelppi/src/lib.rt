@@ -1,21 +1,20 @@
 // The entries for C: packer and unpacker on byte slices, and the engine's calls. Document 01, "Packer and unpacker can
 // be called from our C editor on byte slices." `bindings/c/nauvelppi.h` declares them.
 ghost use mathlib.Core.Path.{_≡_};
-ghost use Prim.Native.Nat.{_%_};
-ghost use lib.Dec.{eqb};
 ghost use lib.ListN.{length};
 ghost use Rattle.stream.specs.Command.{write};
 ghost use Rattle.stream.specs.Pack.{pack};
 ghost use Rattle.stream.specs.Unpack.{unpack};
+ghost use Rattle.conversions.specs.Convert.{convert, longestOutput};
 ghost use Rattle.state.specs.Fresh.{start};
 ghost use Rattle.registers.specs.Registers.{readStatus, readClipMatrix, readVectorMatrix, readOverflow};
 ghost use Rattle.registers.specs.Registers.{clearError, clearOverflow};
 ghost use Rattle.execute.specs.Call.{machineOf, replyOf, GivenBack, wordReply, portReply};
 ghost use Rattle.nauvelppi.specs.InPlace.{inPlace};
 ghost use Rattle.nauvelppi.specs.Bytes.{onAllBytes, StoresBytes};
+use conversions::convert_bytes;
 use engine::port_write;
 use engine::word;
-use packer::pack_bytes;
 use registers::CornerAnswer;
 use registers::FlagAnswer;
 use registers::MatrixAnswer;
@@ -32,21 +31,24 @@ use stream::OutputAnswer;
 use stream::longest_list;
 use stream::longest_log;
 use stream::refused;
-use unpacker::unpack_bytes;
 use words::least;
 use words::write_words;
 
-// The longest list, in words: a log is packed to no more.
-const LONGEST_LIST: usize = 8192;
-
-// The longest log that a list is unpacked to, in words: 16,384 port writes.
-const LONGEST_LOG: usize = 32768;
-
-// Whether so many bytes are whole words.
-fn is_whole(size: usize) -> bool
-    ensures { λ r. ⌜ r ≡ eqb (size % 4) 0 ⌝ }
+// A log, where `log` holds, is packed to a list; else a list is unpacked to a log. Both are bytes, little-endian words;
+// `words` is lent for those of the output.
+fn convert_to(log: bool, input: &[u8], words: &mut [u32], output: &mut [u8]) -> OutputAnswer
+    requires { ⌜ length (now words) ≡ longestOutput log ⌝ }
+    ensures { λ r. ⌜ StoresBytes (onAllBytes (convert log) (length (now (output .entry))) (now (input .entry))) r
+        (now (output .entry)) (now (output .exit)) ⌝ }
 {
-    size % 4 == 0
+    if output.len() % 4 != 0 {
+        return refused(7, 0);
+    }
+    let capacity = least(output.len() / 4, words.len());
+    let answer = convert_bytes(log, input, &mut words[..capacity]);
+    let length = answer.length as usize;
+    write_words(&words[..length], output);
+    answer
 }
 
 // A log as bytes is packed to a list as bytes, little-endian words both.
@@ -55,15 +57,8 @@ pub extern "C" fn nauvelppi_pack(log: &[u8], output: &mut [u8]) -> OutputAnswer
     ensures { λ r. ⌜ StoresBytes (onAllBytes pack (length (now (output .entry))) (now (log .entry))) r
         (now (output .entry)) (now (output .exit)) ⌝ }
 {
-    if !is_whole(output.len()) {
-        return refused(7, 0);
-    }
-    let capacity = least(output.len() / 4, LONGEST_LIST);
     let mut list = longest_list();
-    let answer = pack_bytes(log, &mut list[..capacity]);
-    let length = answer.length as usize;
-    write_words(&list[..length], output);
-    answer
+    convert_to(true, log, &mut list, output)
 }
 
 // A list as bytes is unpacked to a log as bytes, little-endian words both.
@@ -72,15 +67,8 @@ pub extern "C" fn nauvelppi_unpack(list: &[u8], output: &mut [u8]) -> OutputAnsw
     ensures { λ r. ⌜ StoresBytes (onAllBytes unpack (length (now (output .entry))) (now (list .entry))) r
         (now (output .entry)) (now (output .exit)) ⌝ }
 {
-    if !is_whole(output.len()) {
-        return refused(7, 0);
-    }
-    let capacity = least(output.len() / 4, LONGEST_LOG);
     let mut log = longest_log();
-    let answer = unpack_bytes(list, &mut log[..capacity]);
-    let length = answer.length as usize;
-    write_words(&log[..length], output);
-    answer
+    convert_to(false, list, &mut log, output)
 }
 
 // The fresh engine with these rooms: 1 to 6,144 vertices and 1 to 2,048 polygons.

@@ -7,7 +7,7 @@ ghost use lib.Seq.{sets};
 ghost use Rattle.words.specs.Words.{over};
 ghost use Rattle.commands.specs.Commands.{parameterTable};
 ghost use Rattle.stream.specs.Read.{writes, logCommands};
-ghost use Rattle.stream.specs.Output.{onBytes, measured, Stores};
+ghost use Rattle.stream.specs.Output.{measured, Stores};
 ghost use Rattle.stream.specs.Pack.{packedWords, orNone, IsRead, pack as Pack·pack};
 ghost use Rattle.stream.specs.Unpack.{writesFor};
 ghost use Rattle.packer.specs.Inside.{IsLog, values, AtPort, Finds, Sizes, GroupFits, PutGroup};
@@ -21,7 +21,6 @@ use commands::port_parameters_in;
 use stream::OutputAnswer;
 use stream::one_if;
 use stream::refused;
-use stream::words_of;
 use stream::writes_for;
 
 // The longest log and the longest list, in words.
@@ -308,20 +307,4 @@ pub fn pack(log: &[u32], output: &mut [u32]) -> OutputAnswer
     }
     put_log(&table, log, pairs, output);
     answer
-}
-
-// A log that is given as bytes, little-endian words; 7 also for bytes that are not whole words.
-pub fn pack_bytes(input: &[u8], output: &mut [u32]) -> OutputAnswer
-    ensures { λ r. ⌜ Stores (onBytes (Pack·pack (length (now (output .entry)))) (now (input .entry))) r
-        (now (output .entry)) (now (output .exit)) ⌝ }
-{
-    if input.len() % 4 != 0 {
-        return refused(7, 0);
-    }
-    let count = input.len() / 4;
-    if LONGEST < count {
-        return refused(7, 0);
-    }
-    let words = words_of(input);
-    pack(&words[..count], output)
 }

@@ -1,17 +1,18 @@
 -- A run keeps what its report asks: the engine sound, the buffers long enough, no more taken than there is.
-use mathlib.Core.Bool.{Bool, true, false, and-eq-true-iff}
+use mathlib.Core.Bool.{Bool, true, false}
 use mathlib.Core.List.{List}
 use mathlib.Core.Path.{_≡_, refl, sym, ap, _∙_}
-use Prim.Native.Nat.{ℕ, _*_, _%_, _≤_}
+use Prim.Native.Nat.{ℕ, _*_, _≤_}
 use native.Mathlib.Omega.{arith}
-use lib.Dec.{leb, eqb}
+use lib.Dec.{eqb}
 use lib.IntN.{ℤ}
 use lib.ListN.{length}
-use borrow.Author.Tests.{eq-eqb, ne-eqb, leb-true, le-leb}
+use borrow.Author.Tests.{eq-eqb, ne-eqb, le-leb}
 use Rattle.io.specs.Counts.{Counts}
 use Rattle.words.specs.Words.{wordsOf}
 use Rattle.stream.specs.Call.{Machine}
 use Rattle.stream.specs.Read.{writes}
+use Rattle.stream.specs.Input.{isInput}
 use Rattle.stream.proofs.UnpackLaws.{length-writes}
 use Rattle.state.specs.declared.Core.{Core}
 use Rattle.state.specs.declared.Engine.{Engine}
@@ -29,7 +30,7 @@ use Rattle.feeding.proofs.Keeps.{taken-within, words-kept, writes-kept}
 use Rattle.listing.specs.Text.{refusedLine}
 use Rattle.listing.specs.Buffer.{Puts}
 use Rattle.listing.proofs.PutLaws.{reported}
-use Rattle.replays.specs.Replay.{itemSize, isInput, refusalText, ran, replay, Reports}
+use Rattle.replays.specs.Replay.{refusalText, ran, replay, Reports}
 
 pub run-taken : (log : Bool) (m : Machine (Buffered Core)) (ws : List ℕ) → feedAs log m ws .taken ≤ length ws
 unfolding feedAs
@@ -86,10 +87,6 @@ unfolding refusalText
 one-refusal number place d = rw (ne-eqb number 0 d)
 
 -- ---- the report
-
-pub input-fits : (log : Bool) (size : ℕ) → isInput log size ≡ true → size ≤ 32768
-unfolding isInput
-input-fits log size h = leb-true size 32768 (and-eq-true-iff (eqb (size % itemSize log) 0) (leb size 32768) .0 h .1)
 
 -- buffers for the largest rooms are long enough for every sound engine
 pub always-long : (e : Engine) → sound e ≡ true

@@ -1,12 +1,13 @@
 -- What the program `replay` writes for what it is given: the run of a packed list or of a log on a started engine.
-use mathlib.Core.Bool.{Bool, true, false, cond, _&&_}
+use mathlib.Core.Bool.{Bool, true, false, cond}
 use mathlib.Core.List.{List, [], _++_}
 use mathlib.Core.Path.{_≡_}
-use Prim.Native.Nat.{ℕ, _%_}
-use lib.Dec.{leb, eqb}
+use Prim.Native.Nat.{ℕ}
+use lib.Dec.{eqb}
 use lib.IntN.{ℤ}
 use lib.ListN.{length}
 use Rattle.words.specs.Words.{wordsOf, over}
+use Rattle.stream.specs.Input.{isInput}
 use Rattle.state.specs.declared.Core.{Core}
 use Rattle.state.specs.Fresh.{start}
 use Rattle.polygons.specs.Buffers.{Buffered, buffered}
@@ -18,14 +19,6 @@ use Rattle.replays.specs.declared.Source.{Source}
 use Rattle.replays.specs.declared.Source.the-variants.{List as WordList, Log, Neither}
 
 -- ---- a run; `log`: the input is a log, else packed words
-
--- how many bytes an item takes: a port write is two words
-abbrev pub itemSize : Bool → ℕ
-itemSize log = cond log 8 4
-
--- 7: "log of odd length or over 8,192 words; list over 8,192 words; byte slice or file not whole words"
-unfoldable pub isInput : Bool → ℕ → Bool
-isInput log size = eqb (size % itemSize log) 0 && leb size 32768
 
 -- only after a refusal: its number, and which word or write it was (reading 29)
 unfoldable pub refusalText : ℕ → ℕ → List ℕ

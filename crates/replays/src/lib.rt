@@ -11,7 +11,7 @@ ghost use Rattle.execute.specs.Call.{machineOf};
 ghost use Rattle.feeding.specs.Feed.{feedAs, fedOf};
 ghost use Rattle.listing.specs.Buffer.{Puts};
 ghost use Rattle.replays.specs.Arguments.{isDigit, sourceOf, roomOf};
-ghost use Rattle.replays.specs.Replay.{isInput, refusalText, fedText, replay, replayAs, Reports};
+ghost use Rattle.replays.specs.Replay.{refusalText, fedText, replay, replayAs, Reports};
 use feeding::Fed;
 use feeding::feed_as;
 use listing::put_bytes;
@@ -20,6 +20,7 @@ use listing::put_refused;
 use readout::put_engine;
 use state::Counts;
 use state::Engine;
+use stream::is_input;
 use stream::words_of;
 
 // What standard input holds: packed words, or a log of port writes.
@@ -79,16 +80,6 @@ pub fn report_buffer() -> [u8; 433649]
     ensures { λ r. ⌜ 433649 ≡ length r ⌝ }
 {
     [0; 433649]
-}
-
-// Whether so many bytes are an input.
-fn is_input(log: bool, size: usize) -> bool
-    ensures { λ r. ⌜ r ≡ isInput log size ⌝ }
-{
-    if log {
-        return (size % 8 == 0) & (size <= 32768);
-    }
-    (size % 4 == 0) & (size <= 32768)
 }
 
 // The line of a refusal, where there was one.

@@ -1,3 +1,4 @@
 pub mod Report
 pub mod Unpack
 pub mod Pack
+pub mod Inside

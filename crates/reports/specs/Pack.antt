@@ -2,17 +2,13 @@
 -- lower-case hex digits; or document 01's line of a refusal.
 use mathlib.Core.List.{List}
 use Prim.Native.Nat.{ℕ}
-use Rattle.stream.specs.Output.{Output, onBytes}
+use Rattle.stream.specs.Output.{onBytes}
 use Rattle.stream.specs.Pack.{pack}
 use Rattle.listing.specs.Text.{wordsText}
 use Rattle.reports.specs.Report.{reportBy}
 
--- an output's words, or its refusal
-unfoldable pub wordsReport : Output → List ℕ
-wordsReport o = reportBy wordsText o
-
 -- The program reads a log from standard input, little-endian words, address then value; input that is not whole words
 -- or over 8,192 words is 7. Document 01, 9: "packed list would pass 8,192 words", so that an output of that length is
 -- never shorter than needed
-unfoldable pub packReport : List ℕ → List ℕ
-packReport input = wordsReport (onBytes (pack 8192) input)
+abbrev pub packReport : List ℕ → List ℕ
+packReport input = reportBy wordsText (onBytes (pack 8192) input)

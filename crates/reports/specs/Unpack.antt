@@ -2,7 +2,7 @@
 use mathlib.Core.List.{List}
 use Prim.Native.Nat.{ℕ}
 use Rattle.stream.specs.Read.{writes}
-use Rattle.stream.specs.Output.{Output, onBytes}
+use Rattle.stream.specs.Output.{onBytes}
 use Rattle.stream.specs.Unpack.{unpack}
 use Rattle.listing.specs.Text.{portsText}
 use Rattle.reports.specs.Report.{reportBy}
@@ -11,11 +11,7 @@ use Rattle.reports.specs.Report.{reportBy}
 abbrev pub logText : List ℕ → List ℕ
 logText log = portsText (writes log)
 
--- an output's log, or its refusal
-unfoldable pub logReport : Output → List ℕ
-logReport o = reportBy logText o
-
 -- "The unpack program reads standard input, little-endian words." "A list can give up to 16,384 pairs; the program
 -- prints them all and never answers 10."
-unfoldable pub unpackReport : List ℕ → List ℕ
-unpackReport input = logReport (onBytes (unpack 32768) input)
+abbrev pub unpackReport : List ℕ → List ℕ
+unpackReport input = reportBy logText (onBytes (unpack 32768) input)

@@ -1,17 +1,49 @@
 // What the programs write for what they read.
 ghost use mathlib.Core.Path.{_≡_};
+ghost use Prim.Native.Nat.{_≤_};
 ghost use lib.ListN.{length};
 ghost use Rattle.io.specs.Counts.{Counts};
 ghost use Rattle.words.specs.Words.{over};
+ghost use Rattle.conversions.specs.Convert.{longestOutput};
+ghost use Rattle.listing.specs.Buffer.{Puts};
 ghost use Rattle.reports.specs.Unpack.{unpackReport};
 ghost use Rattle.reports.specs.Pack.{packReport};
+ghost use Rattle.reports.specs.Inside.{outputText, longestText, reportOf};
+use conversions::convert_bytes;
 use listing::put_ports;
 use listing::put_refused;
 use listing::put_words;
-use packer::pack_bytes;
 use stream::longest_list;
 use stream::longest_log;
-use unpacker::unpack_bytes;
+
+// The words of an output: those of a list, where `log` holds, since a log was packed; else those of a log.
+fn put_output(text: &mut [u8], log: bool, words: &[u32]) -> usize
+    requires { ⌜ length (now words) ≤ longestOutput log ⌝ }
+    requires { ⌜ longestText log ≤ length (now text) ⌝ }
+    ensures { λ r. ⌜ Puts (outputText log (now (words .entry))) 0 r (now (text .entry)) (now (text .exit)) ⌝ }
+{
+    if log {
+        return put_words(text, 0, words);
+    }
+    put_ports(text, 0, words)
+}
+
+// The report of an input, a log to be packed where `log` holds, else a list to be unpacked; `words` is lent for the
+// output.
+fn put_report(text: &mut [u8], log: bool, input: &[u8], words: &mut [u32]) -> usize
+    requires { ⌜ length (now words) ≡ longestOutput log ⌝ }
+    requires { ⌜ longestText log ≤ length (now text) ⌝ }
+    ensures { λ r. ⌜ r ≡ length (reportOf log (now (input .entry))) ⌝ }
+    ensures { λ r. ⌜ now (text .exit) ≡ over (reportOf log (now (input .entry))) (now (text .entry)) ⌝ }
+    ensures { λ r. ⌜ Counts r (now (text .exit)) ⌝ }
+{
+    let answer = convert_bytes(log, input, &mut *words);
+    if answer.number != 0 {
+        return put_refused(text, 0, answer.number, answer.place);
+    }
+    let length = answer.length as usize;
+    put_output(text, log, &words[..length])
+}
 
 // Room for the longest report of a log: the first line, of at most 17 bytes, and 16,384 lines of 18. What it holds is
 // free.
@@ -28,12 +60,7 @@ pub fn unpack_report(input: &[u8], text: &mut [u8; 294929]) -> usize
     ensures { λ r. ⌜ Counts r (now (text .exit)) ⌝ }
 {
     let mut log = longest_log();
-    let answer = unpack_bytes(input, &mut log);
-    if answer.number != 0 {
-        return put_refused(text, 0, answer.number, answer.place);
-    }
-    let length = answer.length as usize;
-    put_ports(text, 0, &log[..length])
+    put_report(text, false, input, &mut log)
 }
 
 // Room for the longest report of a packed list: the first line, of at most 17 bytes, and 8,192 lines of 9. What it
@@ -51,10 +78,5 @@ pub fn pack_report(input: &[u8], text: &mut [u8; 73745]) -> usize
     ensures { λ r. ⌜ Counts r (now (text .exit)) ⌝ }
 {
     let mut list = longest_list();
-    let packed = pack_bytes(input, &mut list);
-    if packed.number != 0 {
-        return put_refused(text, 0, packed.number, packed.place);
-    }
-    let length = packed.length as usize;
-    put_words(text, 0, &list[..length])
+    put_report(text, true, input, &mut list)
 }

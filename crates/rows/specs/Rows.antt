@@ -47,8 +47,8 @@ use Rattle.execute.specs.Operation.{carried, registerCommandOf, operationOf}
 use Rattle.execute.specs.Execute.{runRegisters, runOperation, execute}
 use Rattle.execute.specs.Call.{exec, wordReply, portReply}
 use Rattle.listing.specs.Text.{ascii, decimal, hex8, writeLine, portsText, wordLine, wordsText, refusedLine}
-use Rattle.reports.specs.Unpack.{logReport, unpackReport}
-use Rattle.reports.specs.Pack.{wordsReport, packReport}
+use Rattle.reports.specs.Unpack.{unpackReport}
+use Rattle.reports.specs.Pack.{packReport}
 
 pub record WorkedRow : Type 1 where
   pub Kind : Type 0
@@ -443,7 +443,7 @@ sounds = (refl, (refl, (refl, (refl, (refl, tt)))))
 unpacks : AllHold unpackRows
 unfolding commandRows lookup known count port counted commandBytes hole commandsOf takesNone commandWord parameterWord
     wordStep listCommands commandWrites commandsLog unpackFrom wordsOf bytesOf onBytes decimal hex8 writeLine portsText
-    refusedLine logReport unpackReport
+    refusedLine
 unpacks = (
   refl,
   (
@@ -474,7 +474,7 @@ packs : AllHold packRows
 unfolding commandRows lookup known count port counted commandAt commandBytes hole commandsOf takesNone commandWord
     parameterWord wordStep heldWith portParameter portStep logCommands listCommands groupWords packedWords packedLength
     packCommands pack commandWrites commandsLog unpackFrom wordsOf bytesOf onBytes decimal hex8 wordLine wordsText
-    refusedLine wordsReport packReport
+    refusedLine
 packs = (refl, (refl, (refl, (refl, (refl, (refl, (refl, (refl, (refl, (refl, (refl, (refl, (refl, tt)))))))))))))
 
 join : (xs ys : List WorkedRow) → AllHold xs → AllHold ys → AllHold (xs ++ ys)

@@ -10,7 +10,7 @@ ghost use lib.Seq.{sets};
 ghost use Rattle.words.specs.Words.{over};
 ghost use Rattle.commands.specs.Commands.{port, commandBytes, hole, parameterTable};
 ghost use Rattle.stream.specs.Read.{listCommands};
-ghost use Rattle.stream.specs.Output.{onBytes, measured, Stores};
+ghost use Rattle.stream.specs.Output.{measured, Stores};
 ghost use Rattle.stream.specs.Pack.{IsRead};
 ghost use Rattle.stream.specs.Unpack.{writesTo, writesFor, logOf, commandsLog, unpackFrom};
 ghost use Rattle.stream.specs.Unpack.{unpack as Unpack·unpack};
@@ -25,7 +25,6 @@ use commands::port_of;
 use stream::OutputAnswer;
 use stream::one_if;
 use stream::refused;
-use stream::words_of;
 use stream::writes_for;
 
 // The longest list, in words.
@@ -230,20 +229,4 @@ pub fn unpack(words: &[u32], output: &mut [u32]) -> OutputAnswer
         (now (output .entry)) (now (output .exit)) ⌝ }
 {
     ListReader::new(words).unpack(output)
-}
-
-// A list that is given as bytes, little-endian words; 7 also for bytes that are not whole words.
-pub fn unpack_bytes(input: &[u8], output: &mut [u32]) -> OutputAnswer
-    ensures { λ r. ⌜ Stores (onBytes (Unpack·unpack (length (now (output .entry)))) (now (input .entry))) r
-        (now (output .entry)) (now (output .exit)) ⌝ }
-{
-    if input.len() % 4 != 0 {
-        return refused(7, 0);
-    }
-    let count = input.len() / 4;
-    if LONGEST < count {
-        return refused(7, 0);
-    }
-    let words = words_of(input);
-    unpack(&words[..count], output)
 }

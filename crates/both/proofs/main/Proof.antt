@@ -1,7 +1,12 @@
 -- `both::main` meets its contract.
-use mathlib.Core.Path.{sym}
+use mathlib.Core.Bool.{true}
+use mathlib.Core.Path.{sym, _∙_}
+use Prim.Native.Nat.{_≤_}
+use native.Mathlib.Omega.{arith}
 use lib.Seq.{length-take-le}
 use borrow.Author.Needs.{needs}
+use borrow.Author.Tests.{not-false}
+use Rattle.stream.proofs.InputLaws.{input-fits}
 use Rattle.both.proofs.main.Statement.{statement}
 use Rattle.both.proofs.main.Tie as tie
 
@@ -14,17 +19,21 @@ slice-aggregate-read-full c = search needs
 read-full-requires : tie.Need-read-full-requires
 read-full-requires c κs = search needs
 
+is-input-requires : tie.Need-is-input-requires
+is-input-requires c κs = search needs
+
 print-refused-requires : tie.Need-print-refused-requires
 print-refused-requires c κs = search needs
 
 returns : tie.Need-returns
 returns c = search needs
 
-print-refused-requires-2 : tie.Need-print-refused-requires-2
-print-refused-requires-2 c κs = search needs
-
-returns-2 : tie.Need-returns-2
-returns-2 c = search needs
+-- the input is not too long
+fits : (c : tie.Else1) → c .before .before .before .read-full .result ≤ 32768
+fits c =
+    let asked = c .before .is-input in
+    input-fits true (c .before .before .before .read-full .result)
+    (sym (asked .ensures) ∙ not-false (asked .result) (c .if1 .left))
 
 array-share-prefix-input : tie.Need-array-share-prefix-input
 array-share-prefix-input c = search needs
@@ -33,19 +42,20 @@ slice-aggregate-words-of : tie.Need-slice-aggregate-words-of
 slice-aggregate-words-of c = search needs
 
 words-of-requires : tie.Need-words-of-requires
-words-of-requires c κs = search needs
+words-of-requires c κs = omega (arith, fits (c .before))
 
 array-share-prefix-log : tie.Need-array-share-prefix-log
-array-share-prefix-log c = search needs
+array-share-prefix-log c = omega (arith, fits (c .before .before))
 
 slice-aggregate-print-both : tie.Need-slice-aggregate-print-both
-slice-aggregate-print-both c = sym (length-take-le _ (c .before .words-of .result) (search needs))
+slice-aggregate-print-both c =
+    sym (length-take-le _ (c .before .words-of .result) (omega (arith, fits (c .before .before .before))))
 
 print-both-requires : tie.Need-print-both-requires
 print-both-requires c κs = search needs
 
-returns-3 : tie.Need-returns-3
-returns-3 c = search needs
+returns-2 : tie.Need-returns-2
+returns-2 c = search needs
 
 pub main-spec : {M : Type 1} → statement M
 main-spec =
@@ -54,14 +64,13 @@ main-spec =
     large-buffer-requires
     slice-aggregate-read-full
     read-full-requires
+    is-input-requires
     print-refused-requires
     returns
-    print-refused-requires-2
-    returns-2
     array-share-prefix-input
     slice-aggregate-words-of
     words-of-requires
     array-share-prefix-log
     slice-aggregate-print-both
     print-both-requires
-    returns-3)
+    returns-2)

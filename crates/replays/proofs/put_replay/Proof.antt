@@ -5,11 +5,12 @@ use mathlib.Core.Path.{_≡_, refl, sym, ap, _∙_}
 use Prim.Native.Nat.{_/_, _≤_}
 use lib.ListN.{length, take, length-take}
 use lib.Seq.{length-take-le}
+use Rattle.stream.proofs.InputLaws.{input-fits}
 use Rattle.state.specs.declared.Answer.{Answer}
 use Rattle.state.specs.Sound.{sound}
 use Rattle.state.proofs.SoundLaws.{start-sound}
 use Rattle.listing.proofs.LineLaws.{length-refusedLine}
-use Rattle.replays.proofs.ReplayLaws.{input-fits, always-long, rooms-refused, input-refused, replay-ran, reports}
+use Rattle.replays.proofs.ReplayLaws.{always-long, rooms-refused, input-refused, replay-ran, reports}
 use borrow.Author.Needs.{needs}
 use Rattle.replays.proofs.put_replay.Statement.{statement}
 use Rattle.replays.proofs.put_replay.Tie as tie

@@ -1,9 +1,9 @@
--- `replays::is_input` meets its contract.
+-- `stream::is_input` meets its contract.
 use mathlib.Core.Path.{refl}
-use Rattle.replays.specs.Replay.{isInput}
+use Rattle.stream.specs.Input.{isInput}
 use borrow.Author.Needs.{needs}
-use Rattle.replays.proofs.is_input.Statement.{statement}
-use Rattle.replays.proofs.is_input.Tie as tie
+use Rattle.stream.proofs.is_input.Statement.{statement}
+use Rattle.stream.proofs.is_input.Tie as tie
 
 returns : tie.Need-returns
 unfolding isInput
