@@ -1,3 +1,4 @@
 pub mod NumberLaws
 pub mod GroupLaws
+pub mod RecordLaws
 pub mod ReadoutLaws

@@ -1,11 +1,10 @@
 // The text of an engine and the caller's two buffers, as the program `replay` prints it, put into a buffer of bytes.
 ghost use mathlib.Core.Path.{_≡_};
 ghost use mathlib.Core.Bool.{true};
-ghost use mathlib.Core.List.{[], _∷_};
-ghost use Prim.Native.Nat.{_+_, _*_, _≤_, _<_};
-ghost use lib.ListN.{length, getD};
+ghost use mathlib.Core.List.{[], _∷_, _++_};
+ghost use Prim.Native.Nat.{_+_, _*_, _≤_};
+ghost use lib.ListN.{length};
 ghost use Rattle.stream.specs.Call.{machine};
-ghost use Rattle.state.specs.List.{waitingVertices};
 ghost use Rattle.state.specs.Sizes.{vertexWidth};
 ghost use Rattle.state.specs.Sound.{soundTransform, soundGeometry, pendingOf, soundStream, sound};
 ghost use Rattle.polygons.specs.Buffers.{buffered, polygonWidth, longEnough};
@@ -13,9 +12,9 @@ ghost use Rattle.listing.specs.Text.{numberLine};
 ghost use Rattle.listing.specs.Buffer.{Puts};
 ghost use Rattle.readout.specs.Numbers.{signed, spacedNumber, spaced, numbersLine, groups};
 ghost use Rattle.readout.specs.Readout.{flag, levelsLine, attributesLine, positionLine, listLine, transformText};
-ghost use Rattle.readout.specs.Readout.{geometryText, pendingLine, matricesText, vertexLine, vertexLines};
-ghost use Rattle.readout.specs.Readout.{waitingText, verticesText, polygonLine, polygonLines};
-ghost use Rattle.readout.specs.Readout.{polygonsText, registersText, listsText, machineText};
+ghost use Rattle.readout.specs.Readout.{geometryText, pendingLine, matricesText, vertexLine, polygonLine};
+ghost use Rattle.readout.specs.Readout.{registersText, listsText, machineText};
+ghost use Rattle.readout.specs.Records.{Holds, lineRoom, recordLine, recordLines};
 use commands::parameter_table;
 use listing::put_bytes;
 use listing::put_decimal;
@@ -24,6 +23,7 @@ use listing::put_number_line;
 use listing::put_word_line;
 use matrix::clip_matrix;
 use polygons::POLYGON_WIDTH;
+use polygons::put_three;
 use registers::status_word;
 use state::Coordinates;
 use state::Engine;
@@ -33,10 +33,15 @@ use state::Registers;
 use state::Stream;
 use state::Transform;
 use state::VERTEX_WIDTH;
-use state::VertexRecord;
 use state::Waiting;
 use state::is_packed_pending;
 use state::list_of;
+
+// What lines are put for: the vertices or the polygons of a buffer.
+enum Records {
+    Vertices,
+    Polygons,
+}
 
 // Every function here stores its text in the buffer from `at` on and answers where the next goes. The public ones are
 // for the crates above, which have a buffer that is long enough.
@@ -235,79 +240,6 @@ fn put_vertex(text: &mut [u8], at: usize, v: &[i32]) -> usize
     put_numbers_line(text, rest, b"", &v[1..])
 }
 
-// A line for each vertex of a buffer, as many as `count`.
-fn put_vertex_lines(text: &mut [u8], at: usize, vertices: &[i32], count: usize) -> usize
-    requires { ⌜ (count ≤ 6144) × (vertexWidth * count ≤ length (now vertices)) ⌝ }
-    requires { ⌜ at + 60 * count ≤ length (now text) ⌝ }
-    ensures { λ r. ⌜ Puts (vertexLines (groups vertexWidth count (now (vertices .entry)))) at r
-        (now (text .entry)) (now (text .exit)) ⌝ }
-    ensures { λ r. ⌜ r ≤ at + 60 * count ⌝ }
-{
-    let mut next = at;
-    let mut i = 0;
-    while i < count {
-        let first = VERTEX_WIDTH * i;
-        let end = first + VERTEX_WIDTH;
-        next = put_vertex(text, next, &vertices[first..end]);
-        i += 1;
-    }
-    next
-}
-
-// How many vertices, and a line for each.
-fn put_vertices(text: &mut [u8], at: usize, vertices: &[i32], count: usize) -> usize
-    requires { ⌜ (count ≤ 6144) × (vertexWidth * count ≤ length (now vertices)) ⌝ }
-    requires { ⌜ at + 20 + 60 * count ≤ length (now text) ⌝ }
-    ensures { λ r. ⌜ Puts (verticesText count (now (vertices .entry))) at r (now (text .entry)) (now (text .exit)) ⌝ }
-    ensures { λ r. ⌜ r ≤ at + 20 + 60 * count ⌝ }
-{
-    let first = put_number_line(text, at, b"vertices ", count as u32);
-    put_vertex_lines(text, first, vertices, count)
-}
-
-// Vertex i of those that can wait.
-fn waiting_vertex(w: Waiting, i: usize) -> VertexRecord
-    requires { ⌜ i < 3 ⌝ }
-    ensures { λ r. ⌜ r ≡ getD (w .first ∷ w .second ∷ w .third ∷ []) i [] ⌝ }
-{
-    if i == 0 {
-        w.first
-    } else if i == 1 {
-        w.second
-    } else {
-        w.third
-    }
-}
-
-// A line for each vertex that waits.
-fn put_waiting_lines(text: &mut [u8], at: usize, w: Waiting) -> usize
-    requires { ⌜ w .count ≤ 3 ⌝ }
-    requires { ⌜ at + 180 ≤ length (now text) ⌝ }
-    ensures { λ r. ⌜ Puts (vertexLines (waitingVertices w)) at r (now (text .entry)) (now (text .exit)) ⌝ }
-    ensures { λ r. ⌜ r ≤ at + 180 ⌝ }
-{
-    let count = w.count;
-    let mut next = at;
-    let mut i = 0;
-    while i < count {
-        let v = waiting_vertex(w, i);
-        next = put_vertex(text, next, &v);
-        i += 1;
-    }
-    next
-}
-
-// How many vertices wait, and a line for each.
-fn put_waiting(text: &mut [u8], at: usize, w: Waiting) -> usize
-    requires { ⌜ w .count ≤ 3 ⌝ }
-    requires { ⌜ at + 199 ≤ length (now text) ⌝ }
-    ensures { λ r. ⌜ Puts (waitingText w) at r (now (text .entry)) (now (text .exit)) ⌝ }
-    ensures { λ r. ⌜ r ≤ at + 199 ⌝ }
-{
-    let first = put_number_line(text, at, b"waiting ", w.count as u32);
-    put_waiting_lines(text, first, w)
-}
-
 // A line for a polygon.
 fn put_polygon(text: &mut [u8], at: usize, p: &[u32]) -> usize
     requires { ⌜ length (now p) ≡ polygonWidth ⌝ }
@@ -321,34 +253,89 @@ fn put_polygon(text: &mut [u8], at: usize, p: &[u32]) -> usize
     put_word_line(text, third, p[2])
 }
 
-// A line for each polygon of a buffer, as many as `count`.
-fn put_polygon_lines(text: &mut [u8], at: usize, polygons: &[u32], count: usize) -> usize
-    requires { ⌜ (count ≤ 2048) × (polygonWidth * count ≤ length (now polygons)) ⌝ }
-    requires { ⌜ at + 31 * count ≤ length (now text) ⌝ }
-    ensures { λ r. ⌜ Puts (polygonLines (groups polygonWidth count (now (polygons .entry)))) at r
+// Line i of the vertices, or of the polygons.
+fn put_record_line(
+    text: &mut [u8],
+    at: usize,
+    of: Records,
+    vertices: &[i32],
+    polygons: &[u32],
+    i: usize,
+) -> usize
+    requires { ⌜ Holds of (i + 1) (now vertices) (now polygons) ⌝ }
+    requires { ⌜ at + lineRoom of ≤ length (now text) ⌝ }
+    ensures { λ r. ⌜ Puts (recordLine of (now (vertices .entry)) (now (polygons .entry)) i) at r
         (now (text .entry)) (now (text .exit)) ⌝ }
-    ensures { λ r. ⌜ r ≤ at + 31 * count ⌝ }
+    ensures { λ r. ⌜ r ≤ at + lineRoom of ⌝ }
+{
+    match of {
+        Records::Vertices => {
+            let first = VERTEX_WIDTH * i;
+            let end = first + VERTEX_WIDTH;
+            put_vertex(text, at, &vertices[first..end])
+        }
+        Records::Polygons => {
+            let first = POLYGON_WIDTH * i;
+            let end = first + POLYGON_WIDTH;
+            put_polygon(text, at, &polygons[first..end])
+        }
+    }
+}
+
+// A line for each of the first `count`.
+fn put_record_lines(
+    text: &mut [u8],
+    at: usize,
+    of: Records,
+    vertices: &[i32],
+    polygons: &[u32],
+    count: usize,
+) -> usize
+    requires { ⌜ Holds of count (now vertices) (now polygons) ⌝ }
+    requires { ⌜ at + lineRoom of * count ≤ length (now text) ⌝ }
+    ensures { λ r. ⌜ Puts (recordLines of (now (vertices .entry)) (now (polygons .entry)) count) at r
+        (now (text .entry)) (now (text .exit)) ⌝ }
+    ensures { λ r. ⌜ r ≤ at + lineRoom of * count ⌝ }
 {
     let mut next = at;
     let mut i = 0;
     while i < count {
-        let first = POLYGON_WIDTH * i;
-        let end = first + POLYGON_WIDTH;
-        next = put_polygon(text, next, &polygons[first..end]);
+        next = put_record_line(text, next, of, vertices, polygons, i);
         i += 1;
     }
     next
 }
 
-// How many polygons, and a line for each.
-fn put_polygons(text: &mut [u8], at: usize, polygons: &[u32], count: usize) -> usize
-    requires { ⌜ (count ≤ 2048) × (polygonWidth * count ≤ length (now polygons)) ⌝ }
-    requires { ⌜ at + 20 + 31 * count ≤ length (now text) ⌝ }
-    ensures { λ r. ⌜ Puts (polygonsText count (now (polygons .entry))) at r (now (text .entry)) (now (text .exit)) ⌝ }
-    ensures { λ r. ⌜ r ≤ at + 20 + 31 * count ⌝ }
+// A name with the space behind it, how many, and a line for each.
+fn put_records(
+    text: &mut [u8],
+    at: usize,
+    name: &[u8],
+    of: Records,
+    vertices: &[i32],
+    polygons: &[u32],
+    count: usize,
+) -> usize
+    requires { ⌜ (count ≤ 6144) × Holds of count (now vertices) (now polygons) ⌝ }
+    requires { ⌜ at + length (now name) + 11 + lineRoom of * count ≤ length (now text) ⌝ }
+    ensures { λ r. ⌜ Puts (numberLine (now (name .entry)) count ++ recordLines of (now (vertices .entry))
+        (now (polygons .entry)) count) at r (now (text .entry)) (now (text .exit)) ⌝ }
+    ensures { λ r. ⌜ r ≤ at + length (now (name .entry)) + 11 + lineRoom of * count ⌝ }
 {
-    let first = put_number_line(text, at, b"polygons ", count as u32);
-    put_polygon_lines(text, first, polygons, count)
+    let first = put_number_line(text, at, name, count as u32);
+    put_record_lines(text, first, of, vertices, polygons, count)
+}
+
+// The three vertices that can wait, one behind the other.
+fn waiting_numbers(w: Waiting) -> [i32; 15]
+    ensures { λ r. ⌜ groups vertexWidth 3 r ≡ w .first ∷ w .second ∷ w .third ∷ [] ⌝ }
+{
+    let mut numbers = [0; 15];
+    let first = w.first;
+    let second = w.second;
+    let third = w.third;
+    put_three(&mut numbers, 0, first, second, third);
+    numbers
 }
 
 // The registers, and whether a command is pending.
@@ -377,9 +364,34 @@ fn put_lists(text: &mut [u8], at: usize, g: Geometry, vertices: &[i32], polygons
 {
     let waiting = g.waiting;
     let used = g.used;
-    let second = put_waiting(text, at, waiting);
-    let third = put_vertices(text, second, vertices, used.vertices);
-    put_polygons(text, third, polygons, used.polygons)
+    let numbers = waiting_numbers(waiting);
+    let second = put_records(
+        text,
+        at,
+        b"waiting ",
+        Records::Vertices,
+        &numbers,
+        polygons,
+        waiting.count,
+    );
+    let third = put_records(
+        text,
+        second,
+        b"vertices ",
+        Records::Vertices,
+        vertices,
+        polygons,
+        used.vertices,
+    );
+    put_records(
+        text,
+        third,
+        b"polygons ",
+        Records::Polygons,
+        vertices,
+        polygons,
+        used.polygons,
+    )
 }
 
 // All of an engine and the caller's two buffers: at most 433,602 bytes, 60 for each of 6,144 vertices, 31 for each of

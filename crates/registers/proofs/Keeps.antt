@@ -4,11 +4,12 @@ use mathlib.Core.Path.{_≡_}
 use native.Mathlib.Omega.{arith}
 use Rattle.state.specs.declared.Transform.{Transform}
 use Rattle.state.specs.declared.Geometry.{Geometry}
+use Rattle.state.specs.declared.Registers.{Registers}
 use Rattle.state.specs.declared.Engine.{Engine}
 use Rattle.state.specs.With.{withOverflow, withTransform, withGeometry, withRegisters}
-use Rattle.state.specs.Sound.{soundGeometry, sound}
+use Rattle.state.specs.Sound.{soundTransform, soundGeometry, sound}
 use Rattle.state.proofs.SoundLaws.{Ranges, ranges, in-ranges, sound-parts, parts-core, core-kept}
-use Rattle.registers.specs.Registers.{errorCleared, clearError, clearOverflow}
+use Rattle.registers.specs.Registers.{answerWith, errorCleared, clearError, clearOverflow}
 
 error-in : (t : Transform) → Ranges t → Ranges (errorCleared t)
 unfolding errorCleared
@@ -18,20 +19,27 @@ overflow-in : (g : Geometry) → soundGeometry g ≡ true → soundGeometry (wit
 unfolding soundGeometry
 overflow-in g h = h
 
+-- sound registers put in
+with-kept : (e : Engine) (r : Registers) → sound e ≡ true → soundTransform (r .transform) ≡ true
+    → soundGeometry (r .geometry) ≡ true → sound (answerWith e r .engine) ≡ true
+unfolding answerWith
+with-kept e r h t g =
+    let c = withRegisters (e .core) r in
+    rw h (core-kept e c h (parts-core c t g))
+
 pub clear-error : (e : Engine) → sound e ≡ true → sound (clearError e .engine) ≡ true
 unfolding clearError
 clear-error e h =
-    let t = e .core .registers .transform in
-    let c = withRegisters (e .core) (withTransform (e .core .registers) (errorCleared t)) in
+    let r = e .core .registers in
+    let t = r .transform in
     let parts = sound-parts e h in
-    rw h
-    (core-kept e c h
-    (parts-core c (in-ranges (errorCleared t) (error-in t (ranges t (parts .transform)))) (parts .geometry)))
+    with-kept e (withTransform r (errorCleared t)) h
+    (in-ranges (errorCleared t) (error-in t (ranges t (parts .transform)))) (parts .geometry)
 
 pub clear-overflow : (e : Engine) → sound e ≡ true → sound (clearOverflow e .engine) ≡ true
 unfolding clearOverflow
 clear-overflow e h =
-    let g = e .core .registers .geometry in
-    let c = withRegisters (e .core) (withGeometry (e .core .registers) (withOverflow g false)) in
+    let r = e .core .registers in
     let parts = sound-parts e h in
-    rw h (core-kept e c h (parts-core c (parts .transform) (overflow-in g (parts .geometry))))
+    with-kept e (withGeometry r (withOverflow (r .geometry) false)) h (parts .transform)
+    (overflow-in (r .geometry) (parts .geometry))

@@ -55,9 +55,9 @@ returns c =
     let levels = c .before .before in
     let number = levels .before .before .before .before in
     let word = number .before .before .before .before .before in
-    let bytes = word .before .before .before .before .before in (
-      puts-both (puts-both (puts-both (bytes .put-bytes .ensures)
-          (rw (word .before .status-word .ensures) at (word .put-word-line .ensures))) (number .put-number-line .ensures))
+    let bytes = word .before .before .before .before .before in
+    let status = rw (word .before .status-word .ensures) at (word .put-word-line .ensures) in (
+      puts-both (puts-both (puts-both (bytes .put-bytes .ensures) status) (number .put-number-line .ensures))
           (levels .put-levels .ensures),
       omega (
         arith,
