@@ -9,6 +9,8 @@ use libc::STDIN_FILENO;
 use libc::STDOUT_FILENO;
 use registers::status;
 use state::Engine;
+use state::MOST_POLYGONS;
+use state::MOST_VERTICES;
 use stream::is_input;
 use stream::longest_list;
 use stream::words_of;
@@ -48,7 +50,7 @@ fn print_end(name: &[u8], end: Fed) {
 
 // Both sides of a log, each with buffers of its own.
 fn print_both(log: &[u32]) {
-    let started = Engine::start(6144, 2048);
+    let started = Engine::start(MOST_VERTICES, MOST_POLYGONS);
     let mut list = longest_list();
     let mut vertices = vertex_buffer();
     let mut polygons = polygon_buffer();

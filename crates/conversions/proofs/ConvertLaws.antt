@@ -9,7 +9,7 @@ use lib.ListN.{length}
 use borrow.Author.Tests.{eqb-true, eqb-false, eq-eqb, leb-false}
 use Rattle.words.specs.Words.{wordsOf}
 use Rattle.words.proofs.Words.{length-wordsOf}
-use Rattle.stream.specs.Input.{isInput}
+use Rattle.stream.specs.Input.{mostBytes, isInput}
 use Rattle.stream.specs.Output.{refusal, onBytes}
 use Rattle.stream.proofs.InputLaws.{input-whole}
 use Rattle.stream.proofs.OutputLaws.{not-whole-words, whole-words}
@@ -37,14 +37,14 @@ words-refused : (log : Bool) (capacity : ℕ) (input : List ℕ) → length inpu
     → isInput log (length input) ≡ false → convert log capacity (wordsOf input) ≡ refusal 7 0
 unfolding isInput
 words-refused false capacity input w h =
-    let long : leb (length input) 32768 ≡ false = rw (eq-eqb (length input % 4) 0 w) at h in
-    too-long 0 capacity (wordsOf input) (omega (arith, length-wordsOf input, leb-false (length input) 32768 long))
+    let long : leb (length input) mostBytes ≡ false = rw (eq-eqb (length input % 4) 0 w) at h in
+    too-long 0 capacity (wordsOf input) (omega (arith, length-wordsOf input, leb-false (length input) mostBytes long))
 words-refused true capacity input w h = by (eqb (length input % 8) 0) refl
   where
     by : (t : Bool) → eqb (length input % 8) 0 ≡ t → convert true capacity (wordsOf input) ≡ refusal 7 0
     by true e =
-        let long : leb (length input) 32768 ≡ false = rw e at h in
-        log-long capacity (wordsOf input) (omega (arith, length-wordsOf input, leb-false (length input) 32768 long))
+        let long : leb (length input) mostBytes ≡ false = rw e at h in
+        log-long capacity (wordsOf input) (omega (arith, length-wordsOf input, leb-false (length input) mostBytes long))
     by false e =
         let d = eqb-false (length input % 8) 0 e in
         log-odd capacity (wordsOf input) (omega (arith, length-wordsOf input, d))

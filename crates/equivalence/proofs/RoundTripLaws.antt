@@ -17,6 +17,7 @@ use Rattle.stream.proofs.UnpackLaws.{length-log, length-writes}
 use Rattle.stream.proofs.LogLaws.{length-zeroed}
 use Rattle.stream.proofs.WriteLaws.{log-of-writes}
 use Rattle.stream.proofs.Demands.{demand2}
+use Rattle.stream.specs.Input.{mostWords}
 use Rattle.equivalence.specs.RoundTrip.{RoundTrip, LogBack}
 
 -- an accepted log is of whole pairs
@@ -25,7 +26,7 @@ unfolding pack
 accepted-even capacity log = by (isOdd (length log)) refl
   where
     by : (t : Bool) → isOdd (length log) ≡ t
-        → cond (t || ltb 8192 (length log)) (refusal 7 0)
+        → cond (t || ltb mostWords (length log)) (refusal 7 0)
         (onRead (logCommands (writes log)) (packCommands capacity)) .number ≡ 0
         → length log % 2 ≡ 0
     by true e z = absurd (omega arith)

@@ -1,6 +1,7 @@
 // The text that the programs print, put into a buffer of bytes.
 ghost use Prim.Native.Nat.{_+_, _*_, _/_, _≤_};
 ghost use lib.ListN.{length};
+ghost use Rattle.stream.specs.Input.{mostWords, longestLog};
 ghost use Rattle.stream.specs.Command.{write};
 ghost use Rattle.stream.specs.Read.{writes};
 ghost use Rattle.listing.specs.Text.{decimal, hex8, numberLine, writeLine, writeLines, wordLine, wordLines};
@@ -81,7 +82,7 @@ fn put_writes(text: &mut [u8], at: usize, log: &[u32]) -> usize
 
 // "ports" and how many, then the port writes of a log.
 pub fn put_ports(text: &mut [u8], at: usize, log: &[u32]) -> usize
-    requires { ⌜ length (now log) ≤ 32768 ⌝ }
+    requires { ⌜ length (now log) ≤ longestLog ⌝ }
     requires { ⌜ at + 17 + 18 * (length (now log) / 2) ≤ length (now text) ⌝ }
     ensures { λ r. ⌜ Puts (portsText (writes (now (log .entry)))) at r (now (text .entry)) (now (text .exit)) ⌝ }
 {
@@ -114,7 +115,7 @@ fn put_word_lines(text: &mut [u8], at: usize, words: &[u32]) -> usize
 
 // "words" and how many, then the words.
 pub fn put_words(text: &mut [u8], at: usize, words: &[u32]) -> usize
-    requires { ⌜ length (now words) ≤ 8192 ⌝ }
+    requires { ⌜ length (now words) ≤ mostWords ⌝ }
     requires { ⌜ at + 17 + 9 * length (now words) ≤ length (now text) ⌝ }
     ensures { λ r. ⌜ Puts (wordsText (now (words .entry))) at r (now (text .entry)) (now (text .exit)) ⌝ }
 {

@@ -16,6 +16,7 @@ use Rattle.stream.specs.Pack.{packedWords, orNone, packCommands, isOdd, pack}
 use Rattle.stream.proofs.StepLaws.{idle-sound, port-keeps}
 use Rattle.stream.proofs.ReadLaws.{stopped-number}
 use Rattle.stream.proofs.OutputLaws.{refused-read, ReadWhole, read-whole, stores-measured}
+use Rattle.stream.specs.Input.{mostWords}
 use Rattle.packer.specs.Inside.{IsLog}
 
 module _ (capacity : ℕ) (log : List ℕ) where
@@ -23,14 +24,14 @@ module _ (capacity : ℕ) (log : List ℕ) where
   unfolding pack
   log-odd h = rw (eq-eqb (length log % 2) 1 h)
 
-  pub log-long : 8192 < length log → pack capacity log ≡ refusal 7 0
+  pub log-long : mostWords < length log → pack capacity log ≡ refusal 7 0
   unfolding pack
-  log-long h = rw (lt-ltb 8192 (length log) h, or-true (isOdd (length log)))
+  log-long h = rw (lt-ltb mostWords (length log) h, or-true (isOdd (length log)))
 
 -- number 7 does not fall
 pub record Allowed (log : List ℕ) : Type 0 where
   pub not-odd : length log % 2 ≡ 1 → ⊥
-  pub short : length log ≤ 8192
+  pub short : length log ≤ mostWords
 
 pub allowed-log : {log : List ℕ} → Allowed log → IsLog log (length log / 2)
 allowed-log {log} a = record { even = by (length log) (a .not-odd); few = omega (arith, a .short) }
@@ -41,7 +42,7 @@ allowed-log {log} a = record { even = by (length log) (a .not-odd); few = omega 
 module _ (capacity : ℕ) {log : List ℕ} (a : Allowed log) where
   by-reading : pack capacity log ≡ onRead (logCommands (writes log)) (packCommands capacity)
   unfolding pack
-  by-reading = rw (ne-eqb (length log % 2) 1 (a .not-odd), le-ltb 8192 (length log) (a .short))
+  by-reading = rw (ne-eqb (length log % 2) 1 (a .not-odd), le-ltb mostWords (length log) (a .short))
 
   module _ (m : OutputAnswer) (is : m ≡ measured packedWords (logCommands (writes log))) where
     pub refused-log : (m .number ≡ 0 → ⊥) → (old : List ℕ) → Stores (pack capacity log) m old old
@@ -61,14 +62,14 @@ module _ (capacity : ℕ) {log : List ℕ} (a : Allowed log) where
           (λ (r : Read). onRead r (packCommands capacity) ≡ packCommands capacity (orNone (logCommands (writes log))))
           (sym (w .read)) refl
 
-      pub list-long : 8192 < m .length → pack capacity log ≡ refusal 9 0
+      pub list-long : mostWords < m .length → pack capacity log ≡ refusal 9 0
       unfolding packCommands
       list-long h =
           by-commands
-          ∙ rw (lt-ltb 8192 (length (packedWords (orNone (logCommands (writes log))))) (omega (arith, w .length-is)))
+          ∙ rw (lt-ltb mostWords (length (packedWords (orNone (logCommands (writes log))))) (omega (arith, w .length-is)))
 
-      module _ (s : m .length ≤ 8192) where
-        fits : length (packedWords (orNone (logCommands (writes log)))) ≤ 8192
+      module _ (s : m .length ≤ mostWords) where
+        fits : length (packedWords (orNone (logCommands (writes log)))) ≤ mostWords
         fits = omega (arith, w .length-is)
 
         pub too-small : capacity < m .length → pack capacity log ≡ refusal 10 0
@@ -76,7 +77,7 @@ module _ (capacity : ℕ) {log : List ℕ} (a : Allowed log) where
         too-small h =
             by-commands
             ∙ rw (
-              le-ltb 8192 (length (packedWords (orNone (logCommands (writes log))))) fits,
+              le-ltb mostWords (length (packedWords (orNone (logCommands (writes log))))) fits,
               lt-ltb capacity (length (packedWords (orNone (logCommands (writes log))))) (omega (arith, w .length-is)),
             )
 
@@ -87,7 +88,7 @@ module _ (capacity : ℕ) {log : List ℕ} (a : Allowed log) where
             stores-measured
             (by-commands
             ∙ rw (
-              le-ltb 8192 (length (packedWords (orNone (logCommands (writes log))))) fits,
+              le-ltb mostWords (length (packedWords (orNone (logCommands (writes log))))) fits,
               le-ltb capacity (length (packedWords (orNone (logCommands (writes log))))) (omega (arith, w .length-is)),
             ))
             (w .answer)

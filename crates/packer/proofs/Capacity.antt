@@ -12,36 +12,37 @@ use Rattle.stream.specs.Read.{Read, stopped, commands, writes, logCommands}
 use Rattle.stream.specs.Output.{refusal, fitted, onRead}
 use Rattle.stream.specs.Pack.{packedWords, packCommands, isOdd, pack}
 use Rattle.stream.proofs.OutputLaws.{fitted-fits}
+use Rattle.stream.specs.Input.{mostWords}
 
 -- what is stored fits the output
 pub pack-fits : (capacity : ℕ) (log : List ℕ) → length (pack capacity log .words) ≤ capacity
 unfolding pack packCommands
-pack-fits capacity log = by (isOdd (length log) || ltb 8192 (length log)) (logCommands (writes log))
+pack-fits capacity log = by (isOdd (length log) || ltb mostWords (length log)) (logCommands (writes log))
   where
     by : (t : Bool) (r : Read) → length (cond t (refusal 7 0) (onRead r (packCommands capacity)) .words) ≤ capacity
     by true r = zero-le
     by false (stopped n p) = zero-le
-    by false (commands cs) = long (ltb 8192 (length (packedWords cs)))
+    by false (commands cs) = long (ltb mostWords (length (packedWords cs)))
       where
         long : (t : Bool) → length (cond t (refusal 9 0) (fitted capacity (packedWords cs)) .words) ≤ capacity
         long true = zero-le
         long false = fitted-fits capacity (packedWords cs)
 
 -- an output of more than 8,192 words makes no difference
-pub pack-capped : (capacity : ℕ) (log : List ℕ) → 8192 ≤ capacity → pack capacity log ≡ pack 8192 log
+pub pack-capped : (capacity : ℕ) (log : List ℕ) → mostWords ≤ capacity → pack capacity log ≡ pack mostWords log
 unfolding pack packCommands
-pack-capped capacity log h = by (isOdd (length log) || ltb 8192 (length log)) (logCommands (writes log))
+pack-capped capacity log h = by (isOdd (length log) || ltb mostWords (length log)) (logCommands (writes log))
   where
     by : (t : Bool) (r : Read)
-        → cond t (refusal 7 0) (onRead r (packCommands capacity)) ≡ cond t (refusal 7 0) (onRead r (packCommands 8192))
+        → cond t (refusal 7 0) (onRead r (packCommands capacity)) ≡ cond t (refusal 7 0) (onRead r (packCommands mostWords))
     by true r = refl
     by false (stopped n p) = refl
-    by false (commands cs) = long (ltb 8192 (length (packedWords cs))) refl
+    by false (commands cs) = long (ltb mostWords (length (packedWords cs))) refl
       where
-        long : (t : Bool) → ltb 8192 (length (packedWords cs)) ≡ t
+        long : (t : Bool) → ltb mostWords (length (packedWords cs)) ≡ t
             → cond t (refusal 9 0) (fitted capacity (packedWords cs))
-            ≡ cond t (refusal 9 0) (fitted 8192 (packedWords cs))
+            ≡ cond t (refusal 9 0) (fitted mostWords (packedWords cs))
         long true e = refl
         long false e =
-            let l : length (packedWords cs) ≤ 8192 = ltb-false 8192 (length (packedWords cs)) e in
+            let l : length (packedWords cs) ≤ mostWords = ltb-false mostWords (length (packedWords cs)) e in
             rw (le-ltb capacity (length (packedWords cs)) (omega arith), e)

@@ -18,13 +18,11 @@ use commands::command_of_port;
 use commands::known_count_in;
 use commands::parameter_table;
 use commands::port_parameters_in;
+use stream::MOST_WORDS;
 use stream::OutputAnswer;
 use stream::one_if;
 use stream::refused;
 use stream::writes_for;
-
-// The longest log and the longest list, in words.
-const LONGEST: usize = 8192;
 
 // How many commands a command word holds.
 const SLOTS: usize = 4;
@@ -290,7 +288,7 @@ pub fn pack(log: &[u32], output: &mut [u32]) -> OutputAnswer
     if log.len() % 2 == 1 {
         return refused(7, 0);
     }
-    if LONGEST < log.len() {
+    if MOST_WORDS < log.len() {
         return refused(7, 0);
     }
     let table = parameter_table();
@@ -299,7 +297,7 @@ pub fn pack(log: &[u32], output: &mut [u32]) -> OutputAnswer
     if answer.number != 0 {
         return answer;
     }
-    if LONGEST < answer.length as usize {
+    if MOST_WORDS < answer.length as usize {
         return refused(9, 0);
     }
     if output.len() < answer.length as usize {

@@ -5,7 +5,7 @@ ghost use mathlib.Core.List.{[], _∷_, _++_};
 ghost use Prim.Native.Nat.{_+_, _*_, _≤_};
 ghost use lib.ListN.{length};
 ghost use Rattle.stream.specs.Call.{machine};
-ghost use Rattle.state.specs.Sizes.{vertexWidth};
+ghost use Rattle.state.specs.Sizes.{vertexWidth, mostVertices};
 ghost use Rattle.state.specs.Sound.{soundTransform, soundGeometry, pendingOf, soundStream, sound};
 ghost use Rattle.polygons.specs.Buffers.{buffered, polygonWidth, longEnough};
 ghost use Rattle.listing.specs.Text.{numberLine};
@@ -316,7 +316,7 @@ fn put_records(
     polygons: &[u32],
     count: usize,
 ) -> usize
-    requires { ⌜ (count ≤ 6144) × Holds of count (now vertices) (now polygons) ⌝ }
+    requires { ⌜ (count ≤ mostVertices) × Holds of count (now vertices) (now polygons) ⌝ }
     requires { ⌜ at + length (now name) + 11 + lineRoom of * count ≤ length (now text) ⌝ }
     ensures { λ r. ⌜ Puts (numberLine (now (name .entry)) count ++ recordLines of (now (vertices .entry))
         (now (polygons .entry)) count) at r (now (text .entry)) (now (text .exit)) ⌝ }

@@ -7,11 +7,8 @@ use replays::Source;
 use replays::room_of;
 use replays::source_of;
 use state::Counts;
-
-// The rooms where none are given.
-const VERTEX_ROOM: usize = 6144;
-
-const POLYGON_ROOM: usize = 2048;
+use state::MOST_POLYGONS;
+use state::MOST_VERTICES;
 
 // What the first argument names; neither, where there are more than three.
 fn source() -> Source {
@@ -23,7 +20,7 @@ fn source() -> Source {
     source_of(&name[..length])
 }
 
-// The room that argument i gives, where any room is given.
+// The room that argument i gives; `default` where none are given.
 fn room(i: usize, default: usize) -> usize {
     if os::arg_count() <= 2 {
         return default;
@@ -35,8 +32,8 @@ fn room(i: usize, default: usize) -> usize {
 
 fn main() {
     let rooms = Counts {
-        vertices: room(2, VERTEX_ROOM),
-        polygons: room(3, POLYGON_ROOM),
+        vertices: room(2, MOST_VERTICES),
+        polygons: room(3, MOST_POLYGONS),
     };
     // Longer than the longest input, so that one over 8,192 words shows as such.
     let mut input = io::large_buffer();

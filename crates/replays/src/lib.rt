@@ -4,6 +4,7 @@ ghost use mathlib.Core.Path.{_≡_};
 ghost use mathlib.Core.Bool.{true};
 ghost use Prim.Native.Nat.{_+_, _≤_};
 ghost use lib.ListN.{length};
+ghost use Rattle.stream.specs.Input.{mostWords};
 ghost use Rattle.io.specs.Counts.{Counts as Counted};
 ghost use Rattle.state.specs.Sound.{sound};
 ghost use Rattle.polygons.specs.Buffers.{longEnough};
@@ -96,7 +97,7 @@ fn put_refusal(text: &mut [u8], at: usize, number: u32, place: u32) -> usize
 
 // What was fed, and the engine at its end.
 fn put_fed(text: &mut [u8], fed: Fed, vertices: &[i32], polygons: &[u32]) -> usize
-    requires { ⌜ (sound (fed .engine) ≡ true) × (fed .taken ≤ 8192) ⌝ }
+    requires { ⌜ (sound (fed .engine) ≡ true) × (fed .taken ≤ mostWords) ⌝ }
     requires { ⌜ longEnough (fed .engine .core .registers .geometry .rooms) (length (now vertices))
         (length (now polygons)) ≡ true ⌝ }
     requires { ⌜ 433649 ≤ length (now text) ⌝ }
@@ -119,7 +120,7 @@ fn put_run(
     vertices: &mut [i32],
     polygons: &mut [u32],
 ) -> usize
-    requires { ⌜ (sound e ≡ true) × (length (now words) ≤ 8192) ⌝ }
+    requires { ⌜ (sound e ≡ true) × (length (now words) ≤ mostWords) ⌝ }
     requires { ⌜ longEnough (e .core .registers .geometry .rooms) (length (now vertices)) (length (now polygons))
         ≡ true ⌝ }
     requires { ⌜ 433649 ≤ length (now text) ⌝ }

@@ -4,6 +4,7 @@ use mathlib.Core.List.{List}
 use Prim.Native.Nat.{ℕ}
 use Rattle.stream.specs.Output.{onBytes}
 use Rattle.stream.specs.Pack.{pack}
+use Rattle.stream.specs.Input.{mostWords}
 use Rattle.listing.specs.Text.{wordsText}
 use Rattle.reports.specs.Report.{reportBy}
 
@@ -11,4 +12,4 @@ use Rattle.reports.specs.Report.{reportBy}
 -- or over 8,192 words is 7. Document 01, 9: "packed list would pass 8,192 words", so that an output of that length is
 -- never shorter than needed
 abbrev pub packReport : List ℕ → List ℕ
-packReport input = reportBy wordsText (onBytes (pack 8192) input)
+packReport input = reportBy wordsText (onBytes (pack mostWords) input)

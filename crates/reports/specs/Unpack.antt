@@ -4,6 +4,7 @@ use Prim.Native.Nat.{ℕ}
 use Rattle.stream.specs.Read.{writes}
 use Rattle.stream.specs.Output.{onBytes}
 use Rattle.stream.specs.Unpack.{unpack}
+use Rattle.stream.specs.Input.{longestLog}
 use Rattle.listing.specs.Text.{portsText}
 use Rattle.reports.specs.Report.{reportBy}
 
@@ -14,4 +15,4 @@ logText log = portsText (writes log)
 -- "The unpack program reads standard input, little-endian words." "A list can give up to 16,384 pairs; the program
 -- prints them all and never answers 10."
 abbrev pub unpackReport : List ℕ → List ℕ
-unpackReport input = reportBy logText (onBytes (unpack 32768) input)
+unpackReport input = reportBy logText (onBytes (unpack longestLog) input)

@@ -5,17 +5,17 @@ use Prim.Native.Nat.{ℕ, _%_, _≤_}
 use native.Mathlib.Omega.{arith}
 use lib.Dec.{leb, eqb}
 use borrow.Author.Tests.{leb-true, eqb-true}
-use Rattle.stream.specs.Input.{itemSize, isInput}
+use Rattle.stream.specs.Input.{mostBytes, itemSize, isInput}
 
 module _ (log : Bool) (size : ℕ) (h : isInput log size ≡ true) where
   -- it has no more bytes than the longest list
-  pub input-fits : size ≤ 32768
+  pub input-fits : size ≤ mostBytes
   unfolding isInput
-  input-fits = leb-true size 32768 (and-eq-true-iff (eqb (size % itemSize log) 0) (leb size 32768) .0 h .1)
+  input-fits = leb-true size mostBytes (and-eq-true-iff (eqb (size % itemSize log) 0) (leb size mostBytes) .0 h .1)
 
   items : size % itemSize log ≡ 0
   unfolding isInput
-  items = eqb-true (size % itemSize log) 0 (and-eq-true-iff (eqb (size % itemSize log) 0) (leb size 32768) .0 h .0)
+  items = eqb-true (size % itemSize log) 0 (and-eq-true-iff (eqb (size % itemSize log) 0) (leb size mostBytes) .0 h .0)
 
 -- it is whole words
 pub input-whole : (log : Bool) (size : ℕ) → isInput log size ≡ true → size % 4 ≡ 0

@@ -16,19 +16,20 @@ use Rattle.stream.specs.Unpack.{commandsLog, unpackFrom}
 use Rattle.stream.proofs.StepLaws.{idle-sound, word-keeps}
 use Rattle.stream.proofs.ReadLaws.{stopped-number}
 use Rattle.stream.proofs.OutputLaws.{refused-read, ReadWhole, read-whole, stores-measured}
+use Rattle.stream.specs.Input.{mostWords}
 use Rattle.unpacker.specs.Inside.{logFrom}
 
 module _ (place capacity : ℕ) (l : List ℕ) where
-  pub too-long : 8192 < length l → unpackFrom place capacity l ≡ refusal 7 0
+  pub too-long : mostWords < length l → unpackFrom place capacity l ≡ refusal 7 0
   unfolding unpackFrom
-  too-long h = rw (lt-ltb 8192 (length l) h)
+  too-long h = rw (lt-ltb mostWords (length l) h)
 
-  by-reading : length l ≤ 8192 → (r : Read) → listCommands place l ≡ r
+  by-reading : length l ≤ mostWords → (r : Read) → listCommands place l ≡ r
       → unpackFrom place capacity l ≡ onRead r (λ cs. fitted capacity (commandsLog cs))
   unfolding unpackFrom
-  by-reading h r e = rw (le-ltb 8192 (length l) h, e)
+  by-reading h r e = rw (le-ltb mostWords (length l) h, e)
 
-  pub refused-reading : (m : OutputAnswer) → length l ≤ 8192 → m ≡ measured commandsLog (listCommands place l)
+  pub refused-reading : (m : OutputAnswer) → length l ≤ mostWords → m ≡ measured commandsLog (listCommands place l)
       → (m .number ≡ 0 → ⊥) → (old : List ℕ) → Stores (unpackFrom place capacity l) m old old
   refused-reading m h is d =
       refused-read commandsLog (listCommands place l) m is (λ cs. fitted capacity (commandsLog cs))
@@ -37,11 +38,11 @@ module _ (place capacity : ℕ) (l : List ℕ) where
 -- ---- a list that is accepted where the output is long enough, with the answer m
 
 pub record Accepted (place : ℕ) (l : List ℕ) (m : OutputAnswer) : Type 0 where
-  pub short : length l ≤ 8192
+  pub short : length l ≤ mostWords
   pub is : m ≡ measured commandsLog (listCommands place l)
   pub whole : ReadWhole commandsLog (listCommands place l) m is
 
-pub accepted : (place : ℕ) (l : List ℕ) (m : OutputAnswer) → length l ≤ 8192
+pub accepted : (place : ℕ) (l : List ℕ) (m : OutputAnswer) → length l ≤ mostWords
     → m ≡ measured commandsLog (listCommands place l) → m .number ≡ 0 → Accepted place l m
 unfolding listCommands
 accepted place l m h is z = record {

@@ -18,6 +18,7 @@ use Rattle.stream.specs.Unpack.{commandsLog, unpackFrom}
 use Rattle.stream.proofs.ReadLaws.{stopped-not, behind-stopped}
 use Rattle.stream.proofs.UnpackLaws.{length-commands-log}
 use Rattle.stream.proofs.OutputLaws.{fitted-fits}
+use Rattle.stream.specs.Input.{mostWords, longestLog}
 use Rattle.unpacker.specs.Inside.{wordCommands, behindWord}
 use Rattle.unpacker.proofs.WordLaws.{list-ended, at-hole, at-short, at-complete, GoodWord, good-word}
 use Rattle.unpacker.proofs.ExtentLaws.{length-commands, writes-by-words}
@@ -77,7 +78,7 @@ few (suc n) l i cs h e = by (ltb i (length l)) refl (few n l)
 -- what is stored fits the output
 pub unpack-fits : (i capacity : ℕ) (l : List ℕ) → length (unpackFrom i capacity l .words) ≤ capacity
 unfolding unpackFrom
-unpack-fits i capacity l = by (ltb 8192 (length l)) (listCommands i l)
+unpack-fits i capacity l = by (ltb mostWords (length l)) (listCommands i l)
   where
     by : (t : Bool) (r : Read)
         → length (cond t (refusal 7 0) (onRead r (λ cs. fitted capacity (commandsLog cs))) .words) ≤ capacity
@@ -86,24 +87,24 @@ unpack-fits i capacity l = by (ltb 8192 (length l)) (listCommands i l)
     by false (commands cs) = fitted-fits capacity (commandsLog cs)
 
 -- an output of 32,768 numbers, 16,384 pairs, or of more is never shorter than needed
-pub long-enough : (i capacity : ℕ) (l : List ℕ) → 32768 ≤ capacity
-    → unpackFrom i capacity l ≡ cond (ltb 8192 (length l)) (refusal 7 0)
+pub long-enough : (i capacity : ℕ) (l : List ℕ) → longestLog ≤ capacity
+    → unpackFrom i capacity l ≡ cond (ltb mostWords (length l)) (refusal 7 0)
     (onRead (listCommands i l) (λ cs. acceptance (commandsLog cs)))
 unfolding unpackFrom
-long-enough i capacity l h = by (ltb 8192 (length l)) refl (listCommands i l) refl
+long-enough i capacity l h = by (ltb mostWords (length l)) refl (listCommands i l) refl
   where
-    by : (t : Bool) → ltb 8192 (length l) ≡ t → (r : Read) → listCommands i l ≡ r
+    by : (t : Bool) → ltb mostWords (length l) ≡ t → (r : Read) → listCommands i l ≡ r
         → cond t (refusal 7 0) (onRead r (λ cs. fitted capacity (commandsLog cs)))
         ≡ cond t (refusal 7 0) (onRead r (λ cs. acceptance (commandsLog cs)))
     by true e r q = refl
     by false e (stopped n p) q = refl
     by false e (commands cs) q =
         rw (le-ltb capacity (length (commandsLog cs))
-        (omega (arith, h, few (length l) l i cs (omega arith) q, ltb-false 8192 (length l) e)))
+        (omega (arith, h, few (length l) l i cs (omega arith) q, ltb-false mostWords (length l) e)))
 
 -- so a longer one makes no difference
-pub unpack-capped : (i capacity : ℕ) (l : List ℕ) → 32768 ≤ capacity → unpackFrom i capacity l ≡ unpackFrom i 32768 l
-unpack-capped i capacity l h = long-enough i capacity l h ∙ sym (long-enough i 32768 l (omega arith))
+pub unpack-capped : (i capacity : ℕ) (l : List ℕ) → longestLog ≤ capacity → unpackFrom i capacity l ≡ unpackFrom i longestLog l
+unpack-capped i capacity l h = long-enough i capacity l h ∙ sym (long-enough i longestLog l (omega arith))
 
 -- ---- the numbers of an unpacked list
 
@@ -130,10 +131,10 @@ stops (suc n) l i m p h e =
         (behind-stopped (wordCommands l i) (listCommands (behindWord l i) l) m p (sym r ∙ e))
 
 -- "the program prints them all and never answers 10"
-pub never-10 : (i : ℕ) (l : List ℕ) → unpackFrom i 32768 l .number ≡ 10 → ⊥
+pub never-10 : (i : ℕ) (l : List ℕ) → unpackFrom i longestLog l .number ≡ 10 → ⊥
 never-10 i l e =
-    by (ltb 8192 (length l)) (listCommands i l) refl
-    (sym (ap (λ (o : Output). o .number) (long-enough i 32768 l (omega arith))) ∙ e)
+    by (ltb mostWords (length l)) (listCommands i l) refl
+    (sym (ap (λ (o : Output). o .number) (long-enough i longestLog l (omega arith))) ∙ e)
   where
     by : (t : Bool) (r : Read) → listCommands i l ≡ r
         → cond t (refusal 7 0) (onRead r (λ cs. acceptance (commandsLog cs))) .number ≡ 10

@@ -13,6 +13,7 @@ use Rattle.stream.specs.Output.{refusal, answerOf, measured}
 use Rattle.stream.specs.Unpack.{commandsLog}
 use Rattle.stream.proofs.ReadLaws.{prepend-none, prepend-append}
 use Rattle.stream.proofs.UnpackLaws.{length-commands-log}
+use Rattle.stream.specs.Input.{mostWords, longestLog}
 use Rattle.unpacker.specs.declared.Extent.{Extent}
 use Rattle.unpacker.specs.Inside.{wordsBehind, Extends, wordCommands, behindWord}
 use Rattle.unpacker.proofs.WordLaws.{list-ended, at-hole, at-short, at-complete}
@@ -20,13 +21,13 @@ use Rattle.unpacker.proofs.ExtentLaws.{length-commands, extent-small, w
 
 -- the words from `place` up to i were measured: they are commands of `total` numbers
 pub record Measuring (l : List ℕ) (place i total : ℕ) : Type 0 where
-  pub short : length l ≤ 8192
+  pub short : length l ≤ mostWords
   pub done : List Command
   pub read : listCommands place l ≡ prepend done (listCommands i l)
   pub total-is : total ≡ length (commandsLog done)
   pub small : total ≤ 4 * min i (length l)
 
-pub measure-start : (l : List ℕ) (place : ℕ) → length l ≤ 8192 → Measuring l place place 0
+pub measure-start : (l : List ℕ) (place : ℕ) → length l ≤ mostWords → Measuring l place place 0
 unfolding commandsLog
 measure-start l place h = record {
   short = h;
@@ -41,7 +42,7 @@ module _ {l : List ℕ} {place i total : ℕ} (m : Measuring l place i total) wh
       → answerOf (refusal n p) ≡ measured commandsLog (listCommands place l)
   stopped-at n p e = rw (m .read, e)
 
-  pub total-small : total ≤ 32768
+  pub total-small : total ≤ longestLog
   total-small = omega (arith, m .small, m .short)
 
   pub measure-end : length l ≤ i

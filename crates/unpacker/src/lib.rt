@@ -9,6 +9,7 @@ ghost use lib.ListN.{length, take, drop};
 ghost use lib.Seq.{sets};
 ghost use Rattle.words.specs.Words.{over};
 ghost use Rattle.commands.specs.Commands.{port, commandBytes, hole, parameterTable};
+ghost use Rattle.stream.specs.Input.{mostWords};
 ghost use Rattle.stream.specs.Read.{listCommands};
 ghost use Rattle.stream.specs.Output.{measured, Stores};
 ghost use Rattle.stream.specs.Pack.{IsRead};
@@ -22,13 +23,11 @@ use commands::has_hole;
 use commands::is_known_in;
 use commands::parameter_table;
 use commands::port_of;
+use stream::MOST_WORDS;
 use stream::OutputAnswer;
 use stream::one_if;
 use stream::refused;
 use stream::writes_for;
-
-// The longest list, in words.
-const LONGEST: usize = 8192;
 
 // What the commands of a command word take: the words behind it that are theirs, its dummy among them; how many port
 // writes they are; and what is left of the word above them.
@@ -81,7 +80,7 @@ fn is_holed(table: &Table, word: u32) -> bool
 // What the list from a place on is answered with where the output is long enough; nothing is stored yet.
 fn measure(table: &Table, words: &[u32], place: usize) -> OutputAnswer
     requires { ⌜ now table ≡ parameterTable ⌝ }
-    requires { ⌜ length (now words) ≤ 8192 ⌝ }
+    requires { ⌜ length (now words) ≤ mostWords ⌝ }
     ensures { λ r. ⌜ r ≡ measured commandsLog (listCommands place (now (words .entry))) ⌝ }
 {
     let mut i = place;
@@ -184,7 +183,7 @@ pub fn unpack_from(words: &[u32], place: usize, output: &mut [u32]) -> OutputAns
     ensures { λ r. ⌜ Stores (unpackFrom place (length (now (output .entry))) (now (words .entry))) r
         (now (output .entry)) (now (output .exit)) ⌝ }
 {
-    if LONGEST < words.len() {
+    if MOST_WORDS < words.len() {
         return refused(7, 0);
     }
     let table = parameter_table();

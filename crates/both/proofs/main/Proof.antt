@@ -7,6 +7,7 @@ use lib.Seq.{length-take-le}
 use borrow.Author.Needs.{needs}
 use borrow.Author.Tests.{not-false}
 use Rattle.stream.proofs.InputLaws.{input-fits}
+use Rattle.stream.specs.Input.{mostBytes}
 use Rattle.both.proofs.main.Statement.{statement}
 use Rattle.both.proofs.main.Tie as tie
 
@@ -29,7 +30,7 @@ returns : tie.Need-returns
 returns c = search needs
 
 -- the input is not too long
-fits : (c : tie.Else1) → c .before .before .before .read-full .result ≤ 32768
+fits : (c : tie.Else1) → c .before .before .before .read-full .result ≤ mostBytes
 fits c =
     let asked = c .before .is-input in
     input-fits true (c .before .before .before .read-full .result)

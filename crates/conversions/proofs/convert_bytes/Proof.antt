@@ -7,7 +7,7 @@ use lib.ListN.{length}
 use lib.Seq.{length-take-le}
 use borrow.Author.Needs.{needs}
 use borrow.Author.Tests.{not-true, not-false}
-use Rattle.stream.specs.Input.{isInput}
+use Rattle.stream.specs.Input.{mostBytes, isInput}
 use Rattle.stream.specs.Output.{Output, Stores}
 use Rattle.stream.proofs.InputLaws.{input-fits}
 use Rattle.stream.proofs.OutputLaws.{stores-none}
@@ -36,7 +36,7 @@ is-input : (c : tie.Else1) → let a = c .before .before .before .before .args i
     isInput (a .log) (length (a .input .now)) ≡ true
 is-input c = sym (c .before .is-input .ensures) ∙ not-false (c .before .is-input .result) (c .if1 .left)
 
-fits : (c : tie.Else1) → length (c .before .before .before .before .args .input .now) ≤ 32768
+fits : (c : tie.Else1) → length (c .before .before .before .before .args .input .now) ≤ mostBytes
 fits c =
     let a = c .before .before .before .before .args in
     input-fits (a .log) (length (a .input .now)) (is-input c)

@@ -6,6 +6,7 @@ use Prim.Native.Nat.{_/_, _≤_}
 use lib.ListN.{length, take, length-take}
 use lib.Seq.{length-take-le}
 use Rattle.stream.proofs.InputLaws.{input-fits}
+use Rattle.stream.specs.Input.{mostWords, mostBytes}
 use Rattle.state.specs.declared.Answer.{Answer}
 use Rattle.state.specs.Sound.{sound}
 use Rattle.state.proofs.SoundLaws.{start-sound}
@@ -16,7 +17,7 @@ use Rattle.replays.proofs.put_replay.Statement.{statement}
 use Rattle.replays.proofs.put_replay.Tie as tie
 
 -- the input is whole and not too long
-small : (c : tie.Then2) → length (c .before .before .before .before .before .before .args .input .now) ≤ 32768
+small : (c : tie.Then2) → length (c .before .before .before .before .before .before .args .input .now) ≤ mostBytes
 small c =
     let asked = c .before in
     input-fits (asked .before .before .before .before .before .args .log) _
@@ -66,7 +67,7 @@ put-run-requires c κs =
     let started = made .before .before .before .before .before in
     let a = started .before .before .args in
     let is-sound = sounds started in
-    let words : length (take (length (a .input .now) / 4) (made .words-of .result)) ≤ 8192 =
+    let words : length (take (length (a .input .now) / 4) (made .words-of .result)) ≤ mostWords =
     omega (arith, length-take (length (a .input .now) / 4) (made .words-of .result), small (made .before)) in
     let vertices : length (a .vertices .now) ≡ 30720 = omega arith in
     let polygons : length (a .polygons .now) ≡ 6144 = omega arith in

@@ -5,11 +5,12 @@ use lib.ListN.{length}
 use borrow.Author.Needs.{needs}
 use Rattle.reports.proofs.put_output.Statement.{statement}
 use Rattle.reports.proofs.put_output.Tie as tie
+use Rattle.stream.specs.Input.{mostWords, longestLog}
 
 put-words-requires : tie.Need-put-words-requires
 put-words-requires c κs =
     let start = c .before .before .before .before in
-    let few : length (start .args .words .now) ≤ 8192 = rw (c .before .if1 .taken) at (start .pre .0) in
+    let few : length (start .args .words .now) ≤ mostWords = rw (c .before .if1 .taken) at (start .pre .0) in
     let room : 73745 ≤ length (start .args .text .now) = rw (c .before .if1 .taken) at (start .pre .1) in
     (few, omega arith)
 
@@ -22,7 +23,7 @@ returns c = rw (c .before .before .before .before .if1 .taken) (c .before .befor
 put-ports-requires : tie.Need-put-ports-requires
 put-ports-requires c κs =
     let start = c .before .before .before .before in
-    let few : length (start .args .words .now) ≤ 32768 = rw (c .before .if1 .left) at (start .pre .0) in
+    let few : length (start .args .words .now) ≤ longestLog = rw (c .before .if1 .left) at (start .pre .0) in
     let room : 294929 ≤ length (start .args .text .now) = rw (c .before .if1 .left) at (start .pre .1) in
     (few, omega arith)
 

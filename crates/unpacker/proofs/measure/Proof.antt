@@ -9,6 +9,7 @@ use Rattle.unpacker.proofs.MeasureLaws.{Measuring, measure-start, total
 use Rattle.unpacker.proofs.MeasureLaws.{measure-short, word-small, measure-more}
 use Rattle.unpacker.proofs.measure.Statement.{statement}
 use Rattle.unpacker.proofs.measure.Tie as tie
+use Rattle.stream.specs.Input.{longestLog}
 
 abbrev Inv-loop : tie.InvT-loop
 Inv-loop table words place i₀ total₀ i total = Measuring words place i total
@@ -76,7 +77,7 @@ add-i c = omega (arith, c .if2 .left, c .before .before .before .before .before 
 
 -- its port writes and those before it are few
 small : (c : tie.Else1 Inv-loop μ-loop) → let x = c .before .before in
-    (x .extent-of .result .writes ≤ 132) × (x .before .before .before .loop .total ≤ 32768)
+    (x .extent-of .result .writes ≤ 132) × (x .before .before .before .loop .total ≤ longestLog)
 small c =
     let t = c .before in
     let x = t .before .extent-of in
