@@ -7,10 +7,11 @@ use native.Mathlib.Omega.{arith}
 use lib.Dec.{ltb}
 use lib.ListN.{length}
 use borrow.Author.Tests.{eqb-false}
+use Rattle.words.specs.Odd.{isOdd}
 use Rattle.stream.specs.declared.OutputAnswer.{OutputAnswer}
 use Rattle.stream.specs.Read.{writes, logCommands}
 use Rattle.stream.specs.Output.{Output, refusal, acceptance, onRead, Stores}
-use Rattle.stream.specs.Pack.{packCommands, isOdd, pack}
+use Rattle.stream.specs.Pack.{packCommands, pack}
 use Rattle.stream.specs.Unpack.{logOf, unpack, zeroed}
 use Rattle.stream.proofs.OutputLaws.{stored-words}
 use Rattle.stream.proofs.UnpackLaws.{length-log, length-writes}

@@ -7,12 +7,13 @@ use native.Mathlib.Omega.{arith}
 use lib.ListN.{length}
 use borrow.Author.Tests.{eq-eqb, ne-eqb, lt-ltb, le-ltb}
 use Rattle.words.specs.Words.{over}
+use Rattle.words.specs.Odd.{isOdd}
 use Rattle.stream.specs.declared.OutputAnswer.{OutputAnswer}
 use Rattle.stream.specs.Pending.{idle}
 use Rattle.stream.specs.Step.{portStep}
 use Rattle.stream.specs.Read.{Read, writes, logCommands}
 use Rattle.stream.specs.Output.{refusal, onRead, measured, Stores}
-use Rattle.stream.specs.Pack.{packedWords, orNone, packCommands, isOdd, pack}
+use Rattle.stream.specs.Pack.{packedWords, orNone, packCommands, pack}
 use Rattle.stream.proofs.StepLaws.{idle-sound, port-keeps}
 use Rattle.stream.proofs.ReadLaws.{stopped-number}
 use Rattle.stream.proofs.OutputLaws.{refused-read, ReadWhole, read-whole, stores-measured}

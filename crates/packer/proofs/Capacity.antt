@@ -8,9 +8,10 @@ use native.Mathlib.Omega.{arith}
 use lib.Dec.{ltb}
 use lib.ListN.{length}
 use borrow.Author.Tests.{le-ltb, ltb-false}
+use Rattle.words.specs.Odd.{isOdd}
 use Rattle.stream.specs.Read.{Read, stopped, commands, writes, logCommands}
 use Rattle.stream.specs.Output.{refusal, fitted, onRead}
-use Rattle.stream.specs.Pack.{packedWords, packCommands, isOdd, pack}
+use Rattle.stream.specs.Pack.{packedWords, packCommands, pack}
 use Rattle.stream.proofs.OutputLaws.{fitted-fits}
 use Rattle.stream.specs.Input.{mostWords}
 
