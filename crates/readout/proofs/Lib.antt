@@ -1,4 +1,4 @@
 pub mod NumberLaws
-pub mod GroupLaws
+pub mod ChunkLaws
 pub mod RecordLaws
 pub mod ReadoutLaws

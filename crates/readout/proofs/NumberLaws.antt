@@ -18,7 +18,7 @@ use Rattle.listing.specs.Text.{ascii, decimal, hex8, wordLine, linesOf}
 use Rattle.listing.specs.Buffer.{Puts}
 use Rattle.listing.proofs.NumberLaws.{length-decimal, length-hex}
 use Rattle.listing.proofs.LineLaws.{length-wordLine}
-use Rattle.readout.specs.Numbers.{signed, spacedNumber, spaced, numbersLine}
+use Rattle.readout.specs.Numbers.{signedText, spacedNumber, spaced, numbersLine}
 
 -- ---- the sign of a number, from the code's test
 
@@ -49,30 +49,30 @@ module _ (z : ℤ) (f : SFits w32 z) where
     pub magnitude-less : natAbs (toZ w32 ((2 ^ 32 - 1) - ofZ w32 z)) < 2 ^ 31
     magnitude-less = omega (arith, magnitude, f .sfits)
 
-    pub signed-negative : ascii "-" ++ decimal (natAbs (toZ w32 ((2 ^ 32 - 1) - ofZ w32 z)) + 1) ≡ signed z
-    unfolding signed
+    pub signed-negative : ascii "-" ++ decimal (natAbs (toZ w32 ((2 ^ 32 - 1) - ofZ w32 z)) + 1) ≡ signedText z
+    unfolding signedText
     signed-negative =
         let more : natAbs (toZ w32 ((2 ^ 32 - 1) - ofZ w32 z)) + 1 ≡ suc (mag z) = omega (arith, magnitude) in
-        ap (λ (k : ℕ). ascii "-" ++ decimal k) more ∙ ap signed (sym is-negative)
+        ap (λ (k : ℕ). ascii "-" ++ decimal k) more ∙ ap signedText (sym is-negative)
 
   -- and failed
   pub signed-natural : ltZ (toZ w32 (ofZ w32 z)) (toZ w32 0) ≡ false
-      → decimal (natAbs (toZ w32 (ofZ w32 z))) ≡ signed z
-  unfolding signed
+      → decimal (natAbs (toZ w32 (ofZ w32 z))) ≡ signedText z
+  unfolding signedText
   signed-natural t =
       let is : z ≡ pos (natAbs z) = from-zero z (rw (toZ-ofZ w32 z f) at t) in
-      ap (λ (y : ℤ). decimal (natAbs y)) (toZ-ofZ w32 z f) ∙ ap signed (sym is)
+      ap (λ (y : ℤ). decimal (natAbs y)) (toZ-ofZ w32 z f) ∙ ap signedText (sym is)
 
 -- ---- lengths
 
-pub length-signed : (z : ℤ) → length (signed z) ≤ 11
-unfolding signed
+pub length-signed : (z : ℤ) → length (signedText z) ≤ 11
+unfolding signedText
 length-signed (pos n) = omega (arith, length-decimal n)
 length-signed (negsuc n) = omega (arith, length-append (ascii "-") (decimal (suc n)), length-decimal (suc n))
 
 pub length-spacedNumber : (z : ℤ) → length (spacedNumber z) ≤ 12
 unfolding spacedNumber
-length-spacedNumber z = omega (arith, length-append (ascii " ") (signed z), length-signed z)
+length-spacedNumber z = omega (arith, length-append (ascii " ") (signedText z), length-signed z)
 
 -- pieces of at most k bytes each
 pub length-pieces : {A : Type 0} (piece : A → List ℕ) (k : ℕ) → ((x : A) → length (piece x) ≤ k) → (xs : List A)
@@ -93,7 +93,7 @@ length-numbersLine name zs =
 
 -- ---- how far each text reaches
 
-pub signed-end : (z : ℤ) {at next : ℕ} {old text : List ℕ} → Puts (signed z) at next old text → next ≤ at + 11
+pub signed-end : (z : ℤ) {at next : ℕ} {old text : List ℕ} → Puts (signedText z) at next old text → next ≤ at + 11
 signed-end z p = omega (arith, p .next-is, length-signed z)
 
 pub spaced-end : (z : ℤ) {at next : ℕ} {old text : List ℕ} → Puts (spacedNumber z) at next old text → next ≤ at + 12

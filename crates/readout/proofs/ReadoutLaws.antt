@@ -13,7 +13,7 @@ use Rattle.listing.proofs.LineLaws.{length-numberLine, length-wordLine}
 use Rattle.state.specs.declared.OpenList.{OpenList}
 use Rattle.state.specs.declared.OpenList.the-variants.{Closed, Triangles, Quads, TriangleStrip, QuadStrip}
 use Rattle.state.specs.declared.Coordinates.{Coordinates}
-use Rattle.readout.specs.Numbers.{signed, numbersLine}
+use Rattle.readout.specs.Numbers.{signedText, numbersLine}
 use Rattle.readout.specs.Readout.{levelsLine, attributesLine, positionLine, listLine, vertexLine}
 use Rattle.readout.specs.Readout.{polygonLine}
 use Rattle.readout.proofs.NumberLaws.{length-signed, length-numbersLine}
@@ -46,7 +46,7 @@ unfolding vertexLine
 length-vertexLine v h =
     omega (
       arith,
-      length-append (signed (getD v 0 (pos 0))) (numbersLine [] (drop 1 v)),
+      length-append (signedText (getD v 0 (pos 0))) (numbersLine [] (drop 1 v)),
       length-signed (getD v 0 (pos 0)),
       length-numbersLine [] (drop 1 v),
       length-drop 1 v,

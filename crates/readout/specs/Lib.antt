@@ -1,3 +1,3 @@
 pub mod Numbers
 pub mod Readout
-pub mod Records
+pub mod Inside

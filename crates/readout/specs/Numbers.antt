@@ -6,13 +6,13 @@ use lib.ListN.{take, drop}
 use Rattle.listing.specs.Text.{ascii, decimal, linesOf}
 
 -- a signed 32-bit number in decimal, a minus sign before a negative one
-unfoldable pub signed : ℤ → List ℕ
-signed (pos n) = decimal n
-signed (negsuc n) = ascii "-" ++ decimal (suc n)
+unfoldable pub signedText : ℤ → List ℕ
+signedText (pos n) = decimal n
+signedText (negsuc n) = ascii "-" ++ decimal (suc n)
 
 -- a space and a number
 unfoldable pub spacedNumber : ℤ → List ℕ
-spacedNumber z = ascii " " ++ signed z
+spacedNumber z = ascii " " ++ signedText z
 
 -- numbers, a space before each
 abbrev pub spaced : List ℤ → List ℕ
@@ -22,7 +22,7 @@ spaced = linesOf spacedNumber
 unfoldable pub numbersLine : List ℕ → List ℤ → List ℕ
 numbersLine name zs = name ++ spaced zs ++ ascii "\n"
 
--- the first n groups of k elements each
-abbrev pub groups : {A : Type 0} → ℕ → ℕ → List A → List (List A)
-groups k zero l = []
-groups k (suc n) l = take k l ∷ groups k n (drop k l)
+-- the first n chunks of k elements each
+abbrev pub chunks : {A : Type 0} → ℕ → ℕ → List A → List (List A)
+chunks k zero l = []
+chunks k (suc n) l = take k l ∷ chunks k n (drop k l)

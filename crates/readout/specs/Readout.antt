@@ -1,5 +1,5 @@
 -- The text of an engine and the caller's two buffers, as the program `replay` prints it: one item a line, its name
--- first; numbers in decimal, words as eight hex digits.
+-- first; numbers in decimal, words as eight hex digits (reading 31).
 use mathlib.Core.Bool.{Bool, cond}
 use mathlib.Core.List.{List, [], _∷_, _++_}
 use Prim.Native.Nat.{ℕ}
@@ -21,7 +21,7 @@ use Rattle.state.specs.Sizes.{vertexWidth}
 use Rattle.state.specs.Clip.{clipOf}
 use Rattle.polygons.specs.Buffers.{Buffered, polygonWidth}
 use Rattle.registers.specs.Registers.{statusWord}
-use Rattle.readout.specs.Numbers.{signed, numbersLine, groups}
+use Rattle.readout.specs.Numbers.{signedText, numbersLine, chunks}
 
 -- a flag: 1 where it is set
 abbrev pub flag : Bool → ℕ
@@ -77,7 +77,7 @@ matricesText t =
 
 -- X, Y, Z, W and colour of a vertex
 unfoldable pub vertexLine : List ℤ → List ℕ
-vertexLine v = signed (getD v 0 (pos 0)) ++ numbersLine [] (drop 1 v)
+vertexLine v = signedText (getD v 0 (pos 0)) ++ numbersLine [] (drop 1 v)
 
 abbrev pub vertexLines : List (List ℤ) → List ℕ
 vertexLines = linesOf vertexLine
@@ -87,7 +87,7 @@ waitingText w = numberLine (ascii "waiting ") (w .count) ++ vertexLines (waiting
 
 -- the first n vertices of the caller's buffer
 unfoldable pub verticesText : ℕ → List ℤ → List ℕ
-verticesText n buffer = numberLine (ascii "vertices ") n ++ vertexLines (groups vertexWidth n buffer)
+verticesText n buffer = numberLine (ascii "vertices ") n ++ vertexLines (chunks vertexWidth n buffer)
 
 -- first vertex, count and attributes of a polygon
 unfoldable pub polygonLine : List ℕ → List ℕ
@@ -99,7 +99,7 @@ polygonLines = linesOf polygonLine
 
 -- the first n polygons of the caller's buffer
 unfoldable pub polygonsText : ℕ → List ℕ → List ℕ
-polygonsText n buffer = numberLine (ascii "polygons ") n ++ polygonLines (groups polygonWidth n buffer)
+polygonsText n buffer = numberLine (ascii "polygons ") n ++ polygonLines (chunks polygonWidth n buffer)
 
 -- the registers, and whether a command is pending
 unfoldable pub registersText : Registers → Pending → List ℕ

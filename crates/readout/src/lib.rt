@@ -10,11 +10,11 @@ ghost use Rattle.state.specs.Sound.{soundTransform, soundGeometry, pendingOf, s
 ghost use Rattle.polygons.specs.Buffers.{buffered, polygonWidth, longEnough};
 ghost use Rattle.listing.specs.Text.{numberLine};
 ghost use Rattle.listing.specs.Buffer.{Puts};
-ghost use Rattle.readout.specs.Numbers.{signed, spacedNumber, spaced, numbersLine, groups};
+ghost use Rattle.readout.specs.Numbers.{signedText, spacedNumber, spaced, numbersLine, chunks};
 ghost use Rattle.readout.specs.Readout.{flag, levelsLine, attributesLine, positionLine, listLine, transformText};
 ghost use Rattle.readout.specs.Readout.{geometryText, pendingLine, matricesText, vertexLine, polygonLine};
 ghost use Rattle.readout.specs.Readout.{registersText, listsText, machineText};
-ghost use Rattle.readout.specs.Records.{Holds, lineRoom, recordLine, recordLines};
+ghost use Rattle.readout.specs.Inside.{Holds, lineRoom, recordLine, recordLines};
 use commands::parameter_table;
 use listing::put_bytes;
 use listing::put_decimal;
@@ -49,7 +49,7 @@ enum Records {
 // A signed number in decimal.
 fn put_signed(text: &mut [u8], at: usize, n: i32) -> usize
     requires { ⌜ at + 11 ≤ length (now text) ⌝ }
-    ensures { λ r. ⌜ Puts (signed n) at r (now (text .entry)) (now (text .exit)) ⌝ }
+    ensures { λ r. ⌜ Puts (signedText n) at r (now (text .entry)) (now (text .exit)) ⌝ }
 {
     if n < 0 {
         let digits = put_bytes(text, at, b"-");
@@ -328,7 +328,7 @@ fn put_records(
 
 // The three vertices that can wait, one behind the other.
 fn waiting_numbers(w: Waiting) -> [i32; 15]
-    ensures { λ r. ⌜ groups vertexWidth 3 r ≡ w .first ∷ w .second ∷ w .third ∷ [] ⌝ }
+    ensures { λ r. ⌜ chunks vertexWidth 3 r ≡ w .first ∷ w .second ∷ w .third ∷ [] ⌝ }
 {
     let mut numbers = [0; 15];
     let first = w.first;

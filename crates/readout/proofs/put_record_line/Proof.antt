@@ -2,8 +2,8 @@
 use Prim.Native.Nat.{_+_, _*_, _≤_}
 use native.Mathlib.Omega.{arith}
 use lib.ListN.{length}
-use Rattle.readout.specs.Records.{recordLine}
-use Rattle.readout.proofs.GroupLaws.{part-is, part-long}
+use Rattle.readout.specs.Inside.{recordLine}
+use Rattle.readout.proofs.ChunkLaws.{part-is, part-long}
 use Rattle.readout.proofs.ReadoutLaws.{vertex-end, polygon-end}
 use borrow.Author.Needs.{needs}
 use Rattle.readout.proofs.put_record_line.Statement.{statement}

@@ -7,7 +7,7 @@ use native.Mathlib.Omega.{arith}
 use lib.ListN.{length}
 use Rattle.listing.specs.Buffer.{Puts}
 use Rattle.listing.proofs.PutLaws.{puts-both}
-use Rattle.readout.specs.Records.{lineRoom, recordLine, recordLines}
+use Rattle.readout.specs.Inside.{lineRoom, recordLine, recordLines}
 use Rattle.readout.proofs.RecordLaws.{holds-fewer}
 use borrow.Author.Needs.{needs}
 use Rattle.readout.proofs.put_record_lines.Statement.{statement}

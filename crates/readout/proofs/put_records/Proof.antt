@@ -2,7 +2,7 @@
 use native.Mathlib.Omega.{arith}
 use Rattle.listing.proofs.PutLaws.{puts-both}
 use Rattle.listing.proofs.LineLaws.{number-line-end}
-use Rattle.readout.specs.Records.{recordLines}
+use Rattle.readout.specs.Inside.{recordLines}
 use borrow.Author.Needs.{needs}
 use Rattle.readout.proofs.put_records.Statement.{statement}
 use Rattle.readout.proofs.put_records.Tie as tie

@@ -7,7 +7,7 @@ use Rattle.lowbits.proofs.Read.{again}
 use Rattle.listing.proofs.PutLaws.{puts-both}
 use Rattle.readout.specs.Readout.{vertexLine}
 use Rattle.readout.proofs.NumberLaws.{signed-end}
-use Rattle.readout.proofs.GroupLaws.{rest-of}
+use Rattle.readout.proofs.ChunkLaws.{rest-of}
 use borrow.Author.Needs.{needs}
 use Rattle.readout.proofs.put_vertex.Statement.{statement}
 use Rattle.readout.proofs.put_vertex.Tie as tie

@@ -7,7 +7,7 @@ use native.Mathlib.Omega.{arith}
 use lib.ListN.{length, take, drop, length-drop}
 use lib.Seq.{take-all, drop-drop, length-take-le}
 use Rattle.listing.specs.Text.{linesOf}
-use Rattle.readout.specs.Numbers.{groups}
+use Rattle.readout.specs.Numbers.{chunks}
 
 -- what the code lends behind the first element
 pub rest-of : {A : Type 0} (l : List A) → take (length l - 1) (drop 1 l) ≡ drop 1 l
@@ -24,14 +24,14 @@ module _ {A : Type 0} (k i : ℕ) (l : List A) where
 -- the lines of one group more
 module _ {A : Type 0} (line : List A → List ℕ) (k : ℕ) where
   pub lines-more : (n : ℕ) (l : List A)
-      → linesOf line (groups k (suc n) l) ≡ linesOf line (groups k n l) ++ line (take k (drop (k * n) l))
+      → linesOf line (chunks k (suc n) l) ≡ linesOf line (chunks k n l) ++ line (take k (drop (k * n) l))
   lines-more zero l = rw (append-nil, mul-zero k)
   lines-more (suc n) l =
       let next : k + k * n ≡ k * suc n = omega (arith, mul-suc k n) in
       rw (lines-more n (drop k l), drop-drop (k * n) k l, next, append-assoc)
 
 -- fewer groups
-pub fewer-groups : {A : Type 0} (k m n : ℕ) (l : List A) → n ≤ m → groups k n l ≡ take n (groups k m l)
+pub fewer-groups : {A : Type 0} (k m n : ℕ) (l : List A) → n ≤ m → chunks k n l ≡ take n (chunks k m l)
 fewer-groups k m zero l h = refl
 fewer-groups k zero (suc n) l h = absurd (omega arith)
 fewer-groups k (suc m) (suc n) l h = ap (_∷_ (take k l)) (fewer-groups k m n (drop k l) (omega arith))

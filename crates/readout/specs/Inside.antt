@@ -1,4 +1,5 @@
--- The lines of vertices or of polygons, by one function: what is put for record i, and for the first n.
+-- Inner: the lines of vertices or of polygons, by one function: what is put for record i, and for the first n. No
+-- contract of another crate cites this, and a reader need not believe it.
 use mathlib.Core.List.{List, [], _++_}
 use Prim.Native.Nat.{ℕ, zero, suc, _*_, _≤_}
 use lib.IntN.{ℤ}
