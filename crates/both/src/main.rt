@@ -11,9 +11,8 @@ use registers::status;
 use state::Engine;
 use state::MOST_POLYGONS;
 use state::MOST_VERTICES;
-use stream::is_input;
 use stream::longest_list;
-use stream::words_of;
+use stream::read_input;
 
 fn print_text(text: &[u8]) {
     io::write_all(STDOUT_FILENO, text);
@@ -77,9 +76,9 @@ fn print_both(log: &[u32]) {
 fn main() {
     let mut input = io::large_buffer();
     let read = io::read_full(STDIN_FILENO, &mut input);
-    if !is_input(true, read) {
+    let mut log = longest_list();
+    if !read_input(true, &input[..read], &mut log) {
         return print_refused(7, 0);
     }
-    let log = words_of(&input[..read]);
     print_both(&log[..read / 4]);
 }

@@ -51,8 +51,8 @@ words-refused true capacity input w h = by (eqb (length input % 8) 0) refl
 
 module _ (log : Bool) (capacity : ℕ) (input : List ℕ) where
   -- what is no input is refused with 7
-  pub no-input : isInput log (length input) ≡ false → onBytes (convert log capacity) input ≡ refusal 7 0
-  no-input h = by (eqb (length input % 4) 0) refl
+  pub input-refused : isInput log (length input) ≡ false → onBytes (convert log capacity) input ≡ refusal 7 0
+  input-refused h = by (eqb (length input % 4) 0) refl
     where
       by : (t : Bool) → eqb (length input % 4) 0 ≡ t → onBytes (convert log capacity) input ≡ refusal 7 0
       by true e =
@@ -60,7 +60,7 @@ module _ (log : Bool) (capacity : ℕ) (input : List ℕ) where
           whole-words (convert log capacity) input w ∙ words-refused log capacity input w h
       by false e = not-whole-words (convert log capacity) input (eqb-false (length input % 4) 0 e)
 
-  -- an input is read as its words
-  pub input-read : isInput log (length input) ≡ true
+  -- an input is converted as its words are
+  pub input-converted : isInput log (length input) ≡ true
       → onBytes (convert log capacity) input ≡ convert log capacity (wordsOf input)
-  input-read h = whole-words (convert log capacity) input (input-whole log (length input) h)
+  input-converted h = whole-words (convert log capacity) input (input-whole log (length input) h)

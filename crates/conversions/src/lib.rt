@@ -4,9 +4,9 @@ ghost use Rattle.stream.specs.Output.{onBytes, Stores};
 ghost use Rattle.conversions.specs.Convert.{convert};
 use packer::pack;
 use stream::OutputAnswer;
-use stream::is_input;
+use stream::longest_list;
+use stream::read_input;
 use stream::refused;
-use stream::words_of;
 use unpacker::unpack;
 
 // A log, where `log` holds, is packed to a list; else a list is unpacked to a log.
@@ -25,9 +25,9 @@ pub fn convert_bytes(log: bool, input: &[u8], output: &mut [u32]) -> OutputAnswe
     ensures { λ r. ⌜ Stores (onBytes (convert log (length (now (output .entry)))) (now (input .entry))) r
         (now (output .entry)) (now (output .exit)) ⌝ }
 {
-    if !is_input(log, input.len()) {
+    let mut words = longest_list();
+    if !read_input(log, input, &mut words) {
         return refused(7, 0);
     }
-    let words = words_of(input);
     convert_words(log, &words[..input.len() / 4], output)
 }

@@ -21,8 +21,8 @@ use listing::put_refused;
 use readout::put_engine;
 use state::Counts;
 use state::Engine;
-use stream::is_input;
-use stream::words_of;
+use stream::longest_list;
+use stream::read_input;
 
 // What standard input holds: packed words, or a log of port writes.
 pub enum Source {
@@ -75,8 +75,8 @@ pub fn room_of(digits: &[u8]) -> usize
     room
 }
 
-// Room for the longest report: a line of at most 17 bytes, one of 30, and the engine's text of 433,602. What it holds is
-// free.
+// Room for the longest report: a line of at most 17 bytes, one of 30, and the engine's text of 433,602. What it holds
+// is free.
 pub fn report_buffer() -> [u8; 433649]
     ensures { λ r. ⌜ 433649 ≡ length r ⌝ }
 {
@@ -156,19 +156,18 @@ fn put_replay(
     if started.number != 0 {
         return put_refused(text, 0, 11, 0);
     }
-    if is_input(log, input.len()) {
-        let words = words_of(input);
-        let count = input.len() / 4;
-        return put_run(
-            text,
-            log,
-            started.engine,
-            &words[..count],
-            vertices,
-            polygons,
-        );
+    let mut words = longest_list();
+    if !read_input(log, input, &mut words) {
+        return put_refused(text, 0, 7, 0);
     }
-    put_refused(text, 0, 7, 0)
+    put_run(
+        text,
+        log,
+        started.engine,
+        &words[..input.len() / 4],
+        vertices,
+        polygons,
+    )
 }
 
 // What the program `replay` writes, from the buffer's first byte on; how many bytes that is.

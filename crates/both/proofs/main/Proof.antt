@@ -1,13 +1,12 @@
 -- `both::main` meets its contract.
 use mathlib.Core.Bool.{true}
-use mathlib.Core.Path.{sym, _∙_}
-use Prim.Native.Nat.{_≤_}
+use mathlib.Core.Path.{sym}
+use Prim.Native.Nat.{_/_, _≤_}
 use native.Mathlib.Omega.{arith}
+use lib.ListN.{length, take}
 use lib.Seq.{length-take-le}
 use borrow.Author.Needs.{needs}
-use borrow.Author.Tests.{not-false}
-use Rattle.stream.proofs.InputLaws.{input-fits}
-use Rattle.stream.specs.Input.{mostBytes}
+use Rattle.stream.proofs.InputLaws.{InputRead, input-read}
 use Rattle.both.proofs.main.Statement.{statement}
 use Rattle.both.proofs.main.Tie as tie
 
@@ -20,8 +19,17 @@ slice-aggregate-read-full c = search needs
 read-full-requires : tie.Need-read-full-requires
 read-full-requires c κs = search needs
 
-is-input-requires : tie.Need-is-input-requires
-is-input-requires c κs = search needs
+longest-list-requires : tie.Need-longest-list-requires
+longest-list-requires c κs = search needs
+
+array-share-prefix-input : tie.Need-array-share-prefix-input
+array-share-prefix-input c = search needs
+
+slice-aggregate-read-input : tie.Need-slice-aggregate-read-input
+slice-aggregate-read-input c = search needs
+
+read-input-requires : tie.Need-read-input-requires
+read-input-requires c κs = search needs
 
 print-refused-requires : tie.Need-print-refused-requires
 print-refused-requires c κs = search needs
@@ -29,28 +37,23 @@ print-refused-requires c κs = search needs
 returns : tie.Need-returns
 returns c = search needs
 
--- the input is not too long
-fits : (c : tie.Else1) → c .before .before .before .read-full .result ≤ mostBytes
-fits c =
-    let asked = c .before .is-input in
-    input-fits true (c .before .before .before .read-full .result)
-    (sym (asked .ensures) ∙ not-false (asked .result) (c .if1 .left))
-
-array-share-prefix-input : tie.Need-array-share-prefix-input
-array-share-prefix-input c = search needs
-
-slice-aggregate-words-of : tie.Need-slice-aggregate-words-of
-slice-aggregate-words-of c = search needs
-
-words-of-requires : tie.Need-words-of-requires
-words-of-requires c κs = omega (arith, fits (c .before))
+-- the log is a part of the buffer
+within : (c : tie.Else1) → let full = c .before .before .before .before .before .before in
+    full .read-full .result / 4 ≤ length (c .before .read-input .last .1 .1 .0)
+within c =
+    let full = c .before .before .before .before .before .before in
+    let n = full .read-full .result in
+    let bytes = full .read-full .last .1 .0 in
+    let read : InputRead true (take n bytes) (c .before .read-input .last .1 .1 .0) =
+    input-read (c .before .before .before .before .longest-list .result) (c .before .read-input .ensures)
+    (c .if1 .left) in
+    omega (arith, read .within, length-take-le n bytes (search needs))
 
 array-share-prefix-log : tie.Need-array-share-prefix-log
-array-share-prefix-log c = omega (arith, fits (c .before .before))
+array-share-prefix-log c = within c
 
 slice-aggregate-print-both : tie.Need-slice-aggregate-print-both
-slice-aggregate-print-both c =
-    sym (length-take-le _ (c .before .words-of .result) (omega (arith, fits (c .before .before .before))))
+slice-aggregate-print-both c = sym (length-take-le _ (c .before .before .read-input .last .1 .1 .0) (within (c .before)))
 
 print-both-requires : tie.Need-print-both-requires
 print-both-requires c κs = search needs
@@ -65,12 +68,12 @@ main-spec =
     large-buffer-requires
     slice-aggregate-read-full
     read-full-requires
-    is-input-requires
+    longest-list-requires
+    array-share-prefix-input
+    slice-aggregate-read-input
+    read-input-requires
     print-refused-requires
     returns
-    array-share-prefix-input
-    slice-aggregate-words-of
-    words-of-requires
     array-share-prefix-log
     slice-aggregate-print-both
     print-both-requires
