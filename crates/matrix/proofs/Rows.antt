@@ -53,8 +53,8 @@ rounded-one z f = ap (signedLow 32) (floor-times 12 z) ∙ signed-low 32 z (in-s
 -- ---- rows
 
 -- row i of m
-abbrev pub row : List ℤ → ℕ → List ℤ
-row m i = map (λ (j : ℕ). at m (4 * i + j)) (0 ∷ 1 ∷ 2 ∷ 3 ∷ [])
+abbrev pub matrixRow : List ℤ → ℕ → List ℤ
+matrixRow m i = map (λ (j : ℕ). at m (4 * i + j)) (0 ∷ 1 ∷ 2 ∷ 3 ∷ [])
 
 -- number k of the row whose one number is x, at place i
 abbrev alone : ℤ → ℕ → ℕ → ℤ
@@ -75,14 +75,15 @@ module _ (m : List ℤ) (x : ℤ) where
 
   -- so that the row × m is row i of m, each number times x
   pub row-alone : (i : ℕ) → i < 4
-      → rowBy (alone x i 0) (alone x i 1) (alone x i 2) (alone x i 3) m ≡ map (λ (a : ℤ). rounded (x *ℤ a)) (row m i)
+      → rowBy (alone x i 0) (alone x i 1) (alone x i 2) (alone x i 3) m
+      ≡ map (λ (a : ℤ). rounded (x *ℤ a)) (matrixRow m i)
   unfolding rowBy
   row-alone i h =
       λ t. column-alone i 0 h t ∷ column-alone i 1 h t ∷ column-alone i 2 h t ∷ column-alone i 3 h t ∷ []
 
 -- and at 1.0 row i itself, where its numbers have 32 bits
 pub row-one : (m : List ℤ) → ((k : ℕ) → mag (at m k) < 2 ^ 31) → (i : ℕ) → i < 4
-    → rowBy (alone one i 0) (alone one i 1) (alone one i 2) (alone one i 3) m ≡ row m i
+    → rowBy (alone one i 0) (alone one i 1) (alone one i 2) (alone one i 3) m ≡ matrixRow m i
 row-one m f i h =
     row-alone m one i h
     ∙ (λ t. map (λ (j : ℕ). rounded-one (at m (4 * i + j)) (f (4 * i + j)) t) (0 ∷ 1 ∷ 2 ∷ 3 ∷ []))

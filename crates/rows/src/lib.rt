@@ -1,1 +1,1 @@
-// Document 01's worked rows: definitions and their claim alone, in specs/Rows.antt.
+// Document 01's worked rows, in specs/Rows.antt, and their claim, in proofs/Rows.antt.
