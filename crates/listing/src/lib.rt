@@ -1,4 +1,5 @@
-// The text that the programs print, put into a buffer of bytes.
+// The text that the programs print, put into a buffer of bytes. Every function here is for the crates above, whose
+// buffers are long enough.
 ghost use Prim.Native.Nat.{_+_, _*_, _/_, _≤_};
 ghost use lib.ListN.{length};
 ghost use Rattle.stream.specs.Input.{mostWords, longestLog};
