@@ -1,6 +1,6 @@
 /* The packer, the unpacker and the engine for C, as crates/nauvelppi/src/lib.rt exports them. Link
- * target/staticlib/libnauvelppi.a, which `rt staticlib nauvelppi` builds. No proof speaks of this header; checks/c/layout.c
- * compares its structs with those of the library, member by member.
+ * target/staticlib/libnauvelppi.a, which `rt staticlib nauvelppi` builds. No proof speaks of this header;
+ * checks/c/layout.c compares its structs with those of the library, member by member.
  *
  * Any bytes, any sizes and any engine are answered. Nothing checks these rules, which the caller keeps:
  * - No pointer is null, also where the size is 0.

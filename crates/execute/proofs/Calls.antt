@@ -39,7 +39,7 @@ module _ (e : Engine) (vertices polygons : ℕ) where
 
 -- the rooms of a sound engine
 pub sound-rooms : (e : Engine) → sound e ≡ true
-    → (e .core .registers .geometry .rooms .vertices ≤ mostVertices) × (e .core .registers .geometry .rooms .polygons ≤ mostPolygons)
+    → let rooms = e .core .registers .geometry .rooms in (rooms .vertices ≤ mostVertices) × (rooms .polygons ≤ mostPolygons)
 sound-rooms e h = room-limits _ _ (geometry-ranges (e .core .registers .geometry) (sound-parts e h .geometry) .rooms)
 
 pub sound-core : (e : Engine) → sound e ≡ true → soundCore (e .core) ≡ true

@@ -67,7 +67,8 @@ module _ (capacity : ℕ) {log : List ℕ} (a : Allowed log) where
       unfolding packCommands
       list-long h =
           by-commands
-          ∙ rw (lt-ltb mostWords (length (packedWords (orNone (logCommands (writes log))))) (omega (arith, w .length-is)))
+          ∙ rw (lt-ltb mostWords (length (packedWords (orNone (logCommands (writes log)))))
+          (omega (arith, w .length-is)))
 
       module _ (s : m .length ≤ mostWords) where
         fits : length (packedWords (orNone (logCommands (writes log)))) ≤ mostWords

@@ -35,7 +35,8 @@ unfolding pack packCommands
 pack-capped capacity log h = by (isOdd (length log) || ltb mostWords (length log)) (logCommands (writes log))
   where
     by : (t : Bool) (r : Read)
-        → cond t (refusal 7 0) (onRead r (packCommands capacity)) ≡ cond t (refusal 7 0) (onRead r (packCommands mostWords))
+        → cond t (refusal 7 0) (onRead r (packCommands capacity))
+        ≡ cond t (refusal 7 0) (onRead r (packCommands mostWords))
     by true r = refl
     by false (stopped n p) = refl
     by false (commands cs) = long (ltb mostWords (length (packedWords cs))) refl

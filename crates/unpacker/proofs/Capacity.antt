@@ -103,7 +103,8 @@ long-enough i capacity l h = by (ltb mostWords (length l)) refl (listCommands i 
         (omega (arith, h, few (length l) l i cs (omega arith) q, ltb-false mostWords (length l) e)))
 
 -- so a longer one makes no difference
-pub unpack-capped : (i capacity : ℕ) (l : List ℕ) → longestLog ≤ capacity → unpackFrom i capacity l ≡ unpackFrom i longestLog l
+pub unpack-capped : (i capacity : ℕ) (l : List ℕ) → longestLog ≤ capacity
+    → unpackFrom i capacity l ≡ unpackFrom i longestLog l
 unpack-capped i capacity l h = long-enough i capacity l h ∙ sym (long-enough i longestLog l (omega arith))
 
 -- ---- the numbers of an unpacked list

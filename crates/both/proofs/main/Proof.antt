@@ -53,7 +53,8 @@ array-share-prefix-log : tie.Need-array-share-prefix-log
 array-share-prefix-log c = within c
 
 slice-aggregate-print-both : tie.Need-slice-aggregate-print-both
-slice-aggregate-print-both c = sym (length-take-le _ (c .before .before .read-input .last .1 .1 .0) (within (c .before)))
+slice-aggregate-print-both c =
+    sym (length-take-le _ (c .before .before .read-input .last .1 .1 .0) (within (c .before)))
 
 print-both-requires : tie.Need-print-both-requires
 print-both-requires c κs = search needs

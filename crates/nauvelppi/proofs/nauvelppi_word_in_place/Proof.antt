@@ -1,4 +1,4 @@
--- `nauvelppi::nauvelppi_word_in_place` meets its contract: a walk of its MIR, by hand. The borrow of the record is opened,
+-- `nauvelppi::nauvelppi_word_in_place` meets its contract: a walk of its MIR, by hand. The record's borrow is opened,
 -- the record is copied and passed to `word` with the two buffers, the engine that `word` answers is stored behind the
 -- borrow, and the borrow is closed at it. All that the proof knows of `word` is that it meets its contract. The
 -- buffers' borrows are given up to it at their own lifetimes, shares and names.

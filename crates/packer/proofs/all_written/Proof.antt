@@ -87,7 +87,8 @@ complete-command-requires : tie.Need-complete-command-requires Inv-loop μ-loop
 complete-command-requires c κs = search needs
 
 returns-4 : tie.Need-returns-4 Inv-loop μ-loop
-returns-4 c = is-found (c .complete-command .ensures) (walk-end (c .before .before .loop .inv) (c .before .loop-test .left))
+returns-4 c =
+    is-found (c .complete-command .ensures) (walk-end (c .before .before .loop .inv) (c .before .loop-test .left))
 
 pub all-written-spec : {M : Type 1} → statement M
 all-written-spec =
