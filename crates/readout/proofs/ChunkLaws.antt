@@ -31,7 +31,7 @@ module _ {A : Type 0} (line : List A → List ℕ) (k : ℕ) where
       rw (lines-more n (drop k l), drop-drop (k * n) k l, next, append-assoc)
 
 -- fewer groups
-pub fewer-groups : {A : Type 0} (k m n : ℕ) (l : List A) → n ≤ m → chunks k n l ≡ take n (chunks k m l)
-fewer-groups k m zero l h = refl
-fewer-groups k zero (suc n) l h = absurd (omega arith)
-fewer-groups k (suc m) (suc n) l h = ap (_∷_ (take k l)) (fewer-groups k m n (drop k l) (omega arith))
+pub fewer-chunks : {A : Type 0} (k m n : ℕ) (l : List A) → n ≤ m → chunks k n l ≡ take n (chunks k m l)
+fewer-chunks k m zero l h = refl
+fewer-chunks k zero (suc n) l h = absurd (omega arith)
+fewer-chunks k (suc m) (suc n) l h = ap (_∷_ (take k l)) (fewer-chunks k m n (drop k l) (omega arith))

@@ -327,10 +327,10 @@ fn put_records(
 }
 
 // The three vertices that can wait, one behind the other.
-fn waiting_numbers(w: Waiting) -> [i32; 15]
+fn waiting_numbers(w: Waiting) -> [i32; 3 * VERTEX_WIDTH]
     ensures { λ r. ⌜ chunks vertexWidth 3 r ≡ w .first ∷ w .second ∷ w .third ∷ [] ⌝ }
 {
-    let mut numbers = [0; 15];
+    let mut numbers = [0; 3 * VERTEX_WIDTH];
     let first = w.first;
     let second = w.second;
     let third = w.third;
