@@ -1,6 +1,8 @@
 -- `conversions::convert_bytes` meets its contract.
 use mathlib.Core.Path.{sym, ap, subst, _∙_}
+use native.Mathlib.Omega.{arith}
 use lib.ListN.{length}
+use lib.Seq.{length-take-le}
 use borrow.Author.Needs.{needs}
 use borrow.Author.Tests.{not-true}
 use Rattle.stream.specs.Output.{Output, Stores}
@@ -35,10 +37,11 @@ read : (c : tie.Else1) → let a = c .before .before .before .before .before .be
 read c = input-read (c .before .before .before .longest-list .result) (c .before .read-input .ensures) (c .if1 .left)
 
 array-share-prefix-words : tie.Need-array-share-prefix-words
-array-share-prefix-words c = read c .within
+array-share-prefix-words c = omega (arith, read c .within)
 
 slice-aggregate-convert-words : tie.Need-slice-aggregate-convert-words
-slice-aggregate-convert-words c = sym (read (c .before) .lent)
+slice-aggregate-convert-words c =
+    sym (length-take-le _ (c .before .before .read-input .last .1 .1 .0) (omega (arith, read (c .before) .within)))
 
 convert-words-requires : tie.Need-convert-words-requires
 convert-words-requires c κs = search needs
