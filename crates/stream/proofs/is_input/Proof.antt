@@ -1,7 +1,6 @@
 -- `stream::is_input` meets its contract.
 use mathlib.Core.Path.{refl}
 use Rattle.stream.specs.Input.{isInput}
-use borrow.Author.Needs.{needs}
 use Rattle.stream.proofs.is_input.Statement.{statement}
 use Rattle.stream.proofs.is_input.Tie as tie
 
