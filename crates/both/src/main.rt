@@ -11,8 +11,9 @@ use registers::status;
 use state::Engine;
 use state::MOST_POLYGONS;
 use state::MOST_VERTICES;
+use stream::is_input;
 use stream::longest_list;
-use stream::read_input;
+use words::read_words;
 
 fn print_text(text: &[u8]) {
     io::write_all(STDOUT_FILENO, text);
@@ -76,9 +77,10 @@ fn print_both(log: &[u32]) {
 fn main() {
     let mut input = io::large_buffer();
     let read = io::read_full(STDIN_FILENO, &mut input);
-    let mut log = longest_list();
-    if !read_input(true, &input[..read], &mut log) {
+    if !is_input(true, read) {
         return print_refused(7, 0);
     }
+    let mut log = longest_list();
+    read_words(&input[..read], &mut log);
     print_both(&log[..read / 4]);
 }

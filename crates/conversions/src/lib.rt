@@ -4,10 +4,11 @@ ghost use Rattle.stream.specs.Output.{onBytes, Stores};
 ghost use Rattle.conversions.specs.Convert.{convert};
 use packer::pack;
 use stream::OutputAnswer;
+use stream::is_input;
 use stream::longest_list;
-use stream::read_input;
 use stream::refused;
 use unpacker::unpack;
+use words::read_words;
 
 // A log, where `log` holds, is packed to a list; else a list is unpacked to a log.
 fn convert_words(log: bool, input: &[u32], output: &mut [u32]) -> OutputAnswer
@@ -25,9 +26,10 @@ pub fn convert_bytes(log: bool, input: &[u8], output: &mut [u32]) -> OutputAnswe
     ensures { λ r. ⌜ Stores (onBytes (convert log (length (now (output .entry)))) (now (input .entry))) r
         (now (output .entry)) (now (output .exit)) ⌝ }
 {
-    let mut words = longest_list();
-    if !read_input(log, input, &mut words) {
+    if !is_input(log, input.len()) {
         return refused(7, 0);
     }
+    let mut words = longest_list();
+    read_words(input, &mut words);
     convert_words(log, &words[..input.len() / 4], output)
 }

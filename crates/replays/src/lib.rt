@@ -21,8 +21,9 @@ use listing::put_refused;
 use readout::put_engine;
 use state::Counts;
 use state::Engine;
+use stream::is_input;
 use stream::longest_list;
-use stream::read_input;
+use words::read_words;
 
 // What standard input holds: packed words, or a log of port writes.
 pub enum Source {
@@ -156,10 +157,11 @@ fn put_replay(
     if started.number != 0 {
         return put_refused(text, 0, 11, 0);
     }
-    let mut words = longest_list();
-    if !read_input(log, input, &mut words) {
+    if !is_input(log, input.len()) {
         return put_refused(text, 0, 7, 0);
     }
+    let mut words = longest_list();
+    read_words(input, &mut words);
     put_run(
         text,
         log,

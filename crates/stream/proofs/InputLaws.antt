@@ -1,16 +1,17 @@
 -- Laws of what is an input.
-use mathlib.Core.Bool.{Bool, true, false, not, and-eq-true-iff}
-use mathlib.Core.List.{List, []}
-use mathlib.Core.Path.{_≡_, sym, ap, _∙_}
+use mathlib.Core.Bool.{Bool, true, false, and-eq-true-iff}
+use mathlib.Core.List.{List}
+use mathlib.Core.Path.{_≡_, ap, _∙_}
 use Prim.Native.Nat.{ℕ, _/_, _%_, _≤_}
 use native.Mathlib.Omega.{arith}
 use lib.Dec.{leb, eqb}
 use lib.ListN.{length, take, length-take}
-use borrow.Author.Tests.{leb-true, eqb-true, not-false}
+use lib.Seq.{take-all}
+use borrow.Author.Tests.{leb-true, eqb-true}
 use Rattle.words.specs.Words.{wordsOf, over}
 use Rattle.words.proofs.Over.{take-over}
 use Rattle.words.proofs.Words.{length-wordsOf}
-use Rattle.stream.specs.Input.{mostWords, mostBytes, itemSize, isInput, inputWords}
+use Rattle.stream.specs.Input.{mostWords, mostBytes, itemSize, isInput}
 
 module _ (log : Bool) (size : ℕ) (h : isInput log size ≡ true) where
   -- it has no more bytes than the longest list
@@ -27,16 +28,6 @@ pub input-whole : (log : Bool) (size : ℕ) → isInput log size ≡ true → si
 input-whole true size h = omega (arith, items true size h)
 input-whole false size h = items false size h
 
-module _ (log : Bool) (input : List ℕ) where
-  -- what is no input has no words
-  pub no-words : isInput log (length input) ≡ false → inputWords log input ≡ []
-  unfolding inputWords
-  no-words h = rw h
-
-  pub all-words : isInput log (length input) ≡ true → inputWords log input ≡ wordsOf input
-  unfolding inputWords
-  all-words h = rw h
-
 -- An input that was read into a buffer, which then is `new`
 pub record InputRead (log : Bool) (input new : List ℕ) : Type 0 where
   pub is-input : isInput log (length input) ≡ true
@@ -45,17 +36,19 @@ pub record InputRead (log : Bool) (input new : List ℕ) : Type 0 where
   pub lent : length (take (length input / 4) new) ≡ length input / 4
   pub within : length input / 4 ≤ length new
 
-pub input-read : {log r : Bool} {input new : List ℕ} (old : List ℕ)
-    → (r ≡ isInput log (length input)) × (new ≡ over (inputWords log input) old) → not r ≡ false
-    → InputRead log input new
-input-read {log} {r} {input} {new} old (told, e) n =
-    let is : isInput log (length input) ≡ true = sym told ∙ not-false r n in
+-- from what `read_words` leaves in a buffer for the longest list
+pub input-read : (log : Bool) (input old new : List ℕ) → isInput log (length input) ≡ true → length old ≡ mostWords
+    → new ≡ over (take (length old) (wordsOf input)) old → InputRead log input new
+input-read log input old new is long e =
+    let fits = input-fits log (length input) is in
+    let all : take (length old) (wordsOf input) ≡ wordsOf input =
+    take-all (length old) (wordsOf input) (omega (arith, length-wordsOf input)) in
     let words : take (length input / 4) new ≡ wordsOf input =
-    rw (e, all-words log input is, ← length-wordsOf input) (take-over (wordsOf input) old) in
+    rw (e, all, ← length-wordsOf input) (take-over (wordsOf input) old) in
     let lent : length (take (length input / 4) new) ≡ length input / 4 = ap length words ∙ length-wordsOf input in
     record {
       is-input = is;
-      few = omega (arith, input-fits log (length input) is);
+      few = omega arith;
       words = words;
       lent = lent;
       within = omega (arith, lent, length-take (length input / 4) new);

@@ -1,10 +1,7 @@
 -- Which bytes are an input: document 01, "Numbers a call can refuse with".
 use mathlib.Core.Bool.{Bool, cond, _&&_}
-use mathlib.Core.List.{List, []}
 use Prim.Native.Nat.{ℕ, _*_, _%_}
 use lib.Dec.{leb, eqb}
-use lib.ListN.{length}
-use Rattle.words.specs.Words.{wordsOf}
 
 -- how many words a log or a list has at most: 7, "log of odd length or over 8,192 words; list over 8,192 words"; 9,
 -- "packed list would pass 8,192 words"
@@ -27,7 +24,3 @@ itemSize log = cond log 8 4
 -- whole words" (reading 23)
 unfoldable pub isInput : Bool → ℕ → Bool
 isInput log size = eqb (size % itemSize log) 0 && leb size mostBytes
-
--- the words of an input; none where the bytes are no input
-unfoldable pub inputWords : Bool → List ℕ → List ℕ
-inputWords log input = cond (isInput log (length input)) (wordsOf input) []

@@ -1,12 +1,13 @@
 -- `both::main` meets its contract.
 use mathlib.Core.Bool.{true}
-use mathlib.Core.Path.{sym}
-use Prim.Native.Nat.{_/_, _≤_}
+use mathlib.Core.Path.{sym, _∙_}
+use Prim.Native.Nat.{_≤_}
 use native.Mathlib.Omega.{arith}
-use lib.ListN.{length, take}
 use lib.Seq.{length-take-le}
 use borrow.Author.Needs.{needs}
-use Rattle.stream.proofs.InputLaws.{InputRead, input-read}
+use borrow.Author.Tests.{not-false}
+use Rattle.stream.specs.Input.{mostBytes}
+use Rattle.stream.proofs.InputLaws.{input-fits}
 use Rattle.both.proofs.main.Statement.{statement}
 use Rattle.both.proofs.main.Tie as tie
 
@@ -19,17 +20,8 @@ slice-aggregate-read-full c = search needs
 read-full-requires : tie.Need-read-full-requires
 read-full-requires c κs = search needs
 
-longest-list-requires : tie.Need-longest-list-requires
-longest-list-requires c κs = search needs
-
-array-share-prefix-input : tie.Need-array-share-prefix-input
-array-share-prefix-input c = search needs
-
-slice-aggregate-read-input : tie.Need-slice-aggregate-read-input
-slice-aggregate-read-input c = search needs
-
-read-input-requires : tie.Need-read-input-requires
-read-input-requires c κs = search needs
+is-input-requires : tie.Need-is-input-requires
+is-input-requires c κs = search needs
 
 print-refused-requires : tie.Need-print-refused-requires
 print-refused-requires c κs = search needs
@@ -37,24 +29,34 @@ print-refused-requires c κs = search needs
 returns : tie.Need-returns
 returns c = search needs
 
--- the log is a part of the buffer
-within : (c : tie.Else1) → let full = c .before .before .before .before .before .before in
-    full .read-full .result / 4 ≤ length (c .before .read-input .last .1 .1 .0)
-within c =
-    let full = c .before .before .before .before .before .before in
-    let n = full .read-full .result in
-    let bytes = full .read-full .last .1 .0 in
-    let read : InputRead true (take n bytes) (c .before .read-input .last .1 .1 .0) =
-    input-read (c .before .before .before .before .longest-list .result) (c .before .read-input .ensures)
-    (c .if1 .left) in
-    omega (arith, read .within, length-take-le n bytes (search needs))
+-- the input is not too long
+fits : (c : tie.Else1) → c .before .before .before .read-full .result ≤ mostBytes
+fits c =
+    let asked = c .before .is-input in
+    input-fits true (c .before .before .before .read-full .result)
+    (sym (asked .ensures) ∙ not-false (asked .result) (c .if1 .left))
+
+longest-list-requires : tie.Need-longest-list-requires
+longest-list-requires c κs = search needs
+
+array-share-prefix-input : tie.Need-array-share-prefix-input
+array-share-prefix-input c = search needs
+
+slice-aggregate-read-words : tie.Need-slice-aggregate-read-words
+slice-aggregate-read-words c = search needs
+
+slice-aggregate-read-words-2 : tie.Need-slice-aggregate-read-words-2
+slice-aggregate-read-words-2 c = search needs
+
+read-words-requires : tie.Need-read-words-requires
+read-words-requires c κs = search needs
 
 array-share-prefix-log : tie.Need-array-share-prefix-log
-array-share-prefix-log c = within c
+array-share-prefix-log c = omega (arith, fits (c .before .before .before .before .before))
 
 slice-aggregate-print-both : tie.Need-slice-aggregate-print-both
 slice-aggregate-print-both c =
-    sym (length-take-le _ (c .before .before .read-input .last .1 .1 .0) (within (c .before)))
+    sym (length-take-le _ (c .before .before .read-words .last .1 .0) (omega (arith, fits (c .before .before .before .before .before .before))))
 
 print-both-requires : tie.Need-print-both-requires
 print-both-requires c κs = search needs
@@ -69,12 +71,14 @@ main-spec =
     large-buffer-requires
     slice-aggregate-read-full
     read-full-requires
-    longest-list-requires
-    array-share-prefix-input
-    slice-aggregate-read-input
-    read-input-requires
+    is-input-requires
     print-refused-requires
     returns
+    longest-list-requires
+    array-share-prefix-input
+    slice-aggregate-read-words
+    slice-aggregate-read-words-2
+    read-words-requires
     array-share-prefix-log
     slice-aggregate-print-both
     print-both-requires
