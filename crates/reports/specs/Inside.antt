@@ -1,5 +1,5 @@
--- What the function inside requires and promises that writes the report of either program, over the direction: `log`
--- holds for `pack`, whose input is a log. Nothing here is cited by a contract outside.
+-- Inner: what the function requires and promises that writes the report of either program, over the direction: `log`
+-- holds for `pack`, whose input is a log. No contract of another crate cites this, and a reader need not believe it.
 use mathlib.Core.Bool.{Bool, true, false, cond}
 use mathlib.Core.List.{List}
 use Prim.Native.Nat.{ℕ}

@@ -1,4 +1,4 @@
--- What a program writes for the output of a call: document 01, "Packer and unpacker".
+-- What a program writes for the output of a call on what it could read (reading 32): document 01, "Packer and unpacker".
 use mathlib.Core.Bool.{cond}
 use mathlib.Core.List.{List}
 use Prim.Native.Nat.{ℕ}

@@ -73,8 +73,8 @@ soundGeometry g =
 unfoldable pub soundCore : Core → Bool
 soundCore c = soundTransform (c .registers .transform) && soundGeometry (c .registers .geometry)
 
--- what is pending in a stream: the commands of the rest of its word, and as many parameters as are held (readings 15
--- and 16)
+-- what is pending in a stream: the commands of the rest of its word (reading 16), and as many parameters as are held
+-- (reading 15)
 unfoldable pub pendingOf : Stream → Pending
 pendingOf s =
     record { queue = commandsOf (s .queue); held = take (s .count) (s .held); dummy = s .dummy; port = s .port }
