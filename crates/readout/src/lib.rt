@@ -231,7 +231,7 @@ fn put_matrices(text: &mut [u8], at: usize, t: Transform) -> usize
 }
 
 // A line for a vertex.
-fn put_vertex(text: &mut [u8], at: usize, v: &[i32]) -> usize
+fn put_vertex_line(text: &mut [u8], at: usize, v: &[i32]) -> usize
     requires { ⌜ length (now v) ≡ vertexWidth ⌝ }
     requires { ⌜ at + 60 ≤ length (now text) ⌝ }
     ensures { λ r. ⌜ Puts (vertexLine (now (v .entry))) at r (now (text .entry)) (now (text .exit)) ⌝ }
@@ -241,7 +241,7 @@ fn put_vertex(text: &mut [u8], at: usize, v: &[i32]) -> usize
 }
 
 // A line for a polygon.
-fn put_polygon(text: &mut [u8], at: usize, p: &[u32]) -> usize
+fn put_polygon_line(text: &mut [u8], at: usize, p: &[u32]) -> usize
     requires { ⌜ length (now p) ≡ polygonWidth ⌝ }
     requires { ⌜ at + 31 ≤ length (now text) ⌝ }
     ensures { λ r. ⌜ Puts (polygonLine (now (p .entry))) at r (now (text .entry)) (now (text .exit)) ⌝ }
@@ -272,12 +272,12 @@ fn put_record_line(
         Records::Vertices => {
             let first = VERTEX_WIDTH * i;
             let end = first + VERTEX_WIDTH;
-            put_vertex(text, at, &vertices[first..end])
+            put_vertex_line(text, at, &vertices[first..end])
         }
         Records::Polygons => {
             let first = POLYGON_WIDTH * i;
             let end = first + POLYGON_WIDTH;
-            put_polygon(text, at, &polygons[first..end])
+            put_polygon_line(text, at, &polygons[first..end])
         }
     }
 }

@@ -27,20 +27,20 @@ mul-first c = omega (arith, vertex-there c)
 add-end : tie.Need-add-end
 add-end c = omega (arith, vertex-there c)
 
-mul-put-vertex : tie.Need-mul-put-vertex
-mul-put-vertex c = omega (arith, vertex-there (c .before))
+mul-put-vertex-line : tie.Need-mul-put-vertex-line
+mul-put-vertex-line c = omega (arith, vertex-there (c .before))
 
-sub-put-vertex : tie.Need-sub-put-vertex
-sub-put-vertex c = search needs
+sub-put-vertex-line : tie.Need-sub-put-vertex-line
+sub-put-vertex-line c = search needs
 
-part-put-vertex-start : tie.Need-part-put-vertex-start
-part-put-vertex-start c = search needs
+part-put-vertex-line-start : tie.Need-part-put-vertex-line-start
+part-put-vertex-line-start c = search needs
 
-part-put-vertex-end : tie.Need-part-put-vertex-end
-part-put-vertex-end c = omega (arith, vertex-there (c .before))
+part-put-vertex-line-end : tie.Need-part-put-vertex-line-end
+part-put-vertex-line-end c = omega (arith, vertex-there (c .before))
 
-put-vertex-requires : tie.Need-put-vertex-requires
-put-vertex-requires c κs =
+put-vertex-line-requires : tie.Need-put-vertex-line-requires
+put-vertex-line-requires c κs =
     let start = c .before .before .before .before .before .before in
     let told = c .before .before in (
       part-long 5 (start .args .i) (start .args .vertices .now) (omega (arith, vertex-there told)),
@@ -56,20 +56,20 @@ mul-first-2 c = omega (arith, polygon-there c)
 add-end-2 : tie.Need-add-end-2
 add-end-2 c = omega (arith, polygon-there c)
 
-mul-put-polygon : tie.Need-mul-put-polygon
-mul-put-polygon c = omega (arith, polygon-there (c .before))
+mul-put-polygon-line : tie.Need-mul-put-polygon-line
+mul-put-polygon-line c = omega (arith, polygon-there (c .before))
 
-sub-put-polygon : tie.Need-sub-put-polygon
-sub-put-polygon c = search needs
+sub-put-polygon-line : tie.Need-sub-put-polygon-line
+sub-put-polygon-line c = search needs
 
-part-put-polygon-start : tie.Need-part-put-polygon-start
-part-put-polygon-start c = search needs
+part-put-polygon-line-start : tie.Need-part-put-polygon-line-start
+part-put-polygon-line-start c = search needs
 
-part-put-polygon-end : tie.Need-part-put-polygon-end
-part-put-polygon-end c = omega (arith, polygon-there (c .before))
+part-put-polygon-line-end : tie.Need-part-put-polygon-line-end
+part-put-polygon-line-end c = omega (arith, polygon-there (c .before))
 
-put-polygon-requires : tie.Need-put-polygon-requires
-put-polygon-requires c κs =
+put-polygon-line-requires : tie.Need-put-polygon-line-requires
+put-polygon-line-requires c κs =
     let start = c .before .before .before .before .before .before in
     let told = c .before .before in (
       part-long 3 (start .args .i) (start .args .polygons .now) (omega (arith, polygon-there told)),
@@ -84,7 +84,7 @@ unfolding recordLine
 returns c =
     let told = c .before .before .before .before .before in
     let args = told .before .before .before .before .args in
-    let put = c .before .before .put-vertex .ensures in
+    let put = c .before .before .put-vertex-line .ensures in
     let long = part-long 5 (args .i) (args .vertices .now) (omega (arith, vertex-there told)) in
     rw (told .enum-told .given .1)
     (rw (part-is 5 (args .i) (args .vertices .now)) at put, omega (arith, vertex-end _ long put))
@@ -97,7 +97,7 @@ unfolding recordLine
 returns-2 c =
     let told = c .before .before .before .before .before in
     let args = told .before .before .before .before .args in
-    let put = c .before .before .put-polygon .ensures in
+    let put = c .before .before .put-polygon-line .ensures in
     rw (told .enum-told2 .given .1)
     (rw (part-is 3 (args .i) (args .polygons .now)) at put, omega (arith, polygon-end _ put))
 
@@ -108,19 +108,19 @@ put-record-line-spec =
     enum-told
     mul-first
     add-end
-    mul-put-vertex
-    sub-put-vertex
-    part-put-vertex-start
-    part-put-vertex-end
-    put-vertex-requires
+    mul-put-vertex-line
+    sub-put-vertex-line
+    part-put-vertex-line-start
+    part-put-vertex-line-end
+    put-vertex-line-requires
     enum-told-2
     mul-first-2
     add-end-2
-    mul-put-polygon
-    sub-put-polygon
-    part-put-polygon-start
-    part-put-polygon-end
-    put-polygon-requires
+    mul-put-polygon-line
+    sub-put-polygon-line
+    part-put-polygon-line-start
+    part-put-polygon-line-end
+    put-polygon-line-requires
     same-length
     returns
     same-length-2

@@ -1,4 +1,4 @@
--- `readout::put_vertex` meets its contract.
+-- `readout::put_vertex_line` meets its contract.
 use Prim.Native.Nat.{_-_}
 use native.Mathlib.Omega.{arith}
 use lib.ListN.{length, drop, length-take, length-drop}
@@ -9,8 +9,8 @@ use Rattle.readout.specs.Readout.{vertexLine}
 use Rattle.readout.proofs.NumberLaws.{signed-end}
 use Rattle.readout.proofs.ChunkLaws.{rest-of}
 use borrow.Author.Needs.{needs}
-use Rattle.readout.proofs.put_vertex.Statement.{statement}
-use Rattle.readout.proofs.put_vertex.Tie as tie
+use Rattle.readout.proofs.put_vertex_line.Statement.{statement}
+use Rattle.readout.proofs.put_vertex_line.Tie as tie
 
 shared-slice-copy-out-put-signed : tie.Need-shared-slice-copy-out-put-signed
 shared-slice-copy-out-put-signed c = search needs
@@ -48,8 +48,8 @@ returns c =
     rw (again w32 _ (first .before .put-signed-arg2 .given), rest-of v) at
     (puts-both (first .put-signed .ensures) (rest .put-numbers-line .ensures))
 
-pub put-vertex-spec : {M : Type 1} → statement M
-put-vertex-spec =
+pub put-vertex-line-spec : {M : Type 1} → statement M
+put-vertex-line-spec =
     tie.close
     (tie.spec
     shared-slice-copy-out-put-signed

@@ -1,11 +1,11 @@
--- `readout::put_polygon` meets its contract.
+-- `readout::put_polygon_line` meets its contract.
 use native.Mathlib.Omega.{arith}
 use Rattle.listing.proofs.PutLaws.{puts-both}
 use Rattle.readout.specs.Readout.{polygonLine}
 use Rattle.listing.proofs.NumberLaws.{decimal-end}
 use borrow.Author.Needs.{needs}
-use Rattle.readout.proofs.put_polygon.Statement.{statement}
-use Rattle.readout.proofs.put_polygon.Tie as tie
+use Rattle.readout.proofs.put_polygon_line.Statement.{statement}
+use Rattle.readout.proofs.put_polygon_line.Tie as tie
 
 shared-slice-read-put-decimal : tie.Need-shared-slice-read-put-decimal
 shared-slice-read-put-decimal c = search needs
@@ -61,8 +61,8 @@ returns c =
     puts-both (puts-both (puts-both (puts-both (decimal .put-decimal .ensures) (bytes .put-bytes .ensures))
     (decimal2 .put-decimal2 .ensures)) (bytes2 .put-bytes2 .ensures)) (word .put-word-line .ensures)
 
-pub put-polygon-spec : {M : Type 1} → statement M
-put-polygon-spec =
+pub put-polygon-line-spec : {M : Type 1} → statement M
+put-polygon-line-spec =
     tie.close
     (tie.spec
     shared-slice-read-put-decimal
