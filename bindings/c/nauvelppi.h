@@ -26,7 +26,7 @@ extern "C" {
 /* ---- Packer and unpacker
  *
  * A list is a packed display list, words of 32 bits. A log is a list of port writes, two words each: address, value.
- * All lists and logs are given as bytes, little-endian words, at any address. All sizes are in bytes.
+ * Both calls take and give them as bytes, little-endian words, at any address. All sizes are in bytes.
  *
  * number: 0 where the call was accepted, else why it was refused. Where more than one falls, the order is that of the
  * functions' comments below.
@@ -65,9 +65,9 @@ nauvelppi_answer nauvelppi_unpack(const uint8_t *list, size_t list_size, uint8_t
  * Sound: every call but a start tests first whether the engine is sound, and refuses it with 1 if it is not. An engine
  * is sound if each member keeps the range and the rules that its struct's comment gives. A member for which none is
  * given can have every value of its type. Nothing more is tested. The engine that a start answers is sound, and so is
- * the engine after an accepted call.
+ * the engine after a call that does not refuse with 1.
  *
- * Free: no call looks at it, and it can differ after an accepted call. */
+ * Free: no call looks at it, and it can differ after a call that is accepted or took a word. */
 
 /* Position and vector: the current matrices, and the level that their two stacks share. A matrix is sixteen numbers,
  * row by row, 12 fraction bits: 4096 is 1.0.
@@ -243,9 +243,30 @@ typedef struct nauvelppi_call_answer {
 nauvelppi_call_answer nauvelppi_word_in_place(nauvelppi_engine *engine, uint32_t word, int32_t *vertices,
                                               size_t vertices_length, uint32_t *polygons, size_t polygons_length);
 
+/* What the entry for whole lists answers: number as above.
+ * place: the refused word, counted from 0; 0 where none is refused, and for 1 and 2.
+ * taken: how many words were taken, on a refusal too, where it is equal to the place; `count` where none is refused.
+ * engine: as the words taken left it, and so are both buffers. A refused call that took none hands back the engine and
+ *   leaves the buffers as nauvelppi_word does. */
+typedef struct nauvelppi_list_answer {
+    uint32_t number;
+    size_t place;
+    size_t taken;
+    nauvelppi_engine engine;
+} nauvelppi_list_answer;
+
+/* Packed words, one after another as by nauvelppi_word, up to the first that is refused: 1 and 2, tested before the
+ * first word and for an empty list too; then for each word 4, 3. An empty list is accepted whatever is begun. A list
+ * can begin and end inside a command, and have more than 8,192 words.
+ *
+ * Words are numbers in the machine's own byte order, not little-endian bytes as for packer and unpacker; `count` is how
+ * many. The buffers are those of nauvelppi_word. */
+nauvelppi_list_answer nauvelppi_words(nauvelppi_engine engine, const uint32_t *words, size_t count, int32_t *vertices,
+                                      size_t vertices_length, uint32_t *polygons, size_t polygons_length);
+
 /* ---- What is read and cleared between calls
  *
- * Also while a command is begun. These refuse with 1 only. number and place are as above. */
+ * Also while a command is begun. These refuse with 1 only. number and place are those of nauvelppi_engine_answer. */
 
 /* status: 0 on a refusal. */
 typedef struct nauvelppi_status_answer {

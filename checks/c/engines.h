@@ -1,4 +1,4 @@
-/* Engines: the commands, whether two engines are equal, the fresh one. */
+/* Engines: the commands, whether two engines are equal, the fresh one, free numbers. */
 #ifndef ENGINES_H
 #define ENGINES_H
 
@@ -124,6 +124,24 @@ static inline nauvelppi_engine fresh(size_t vertex_room, size_t polygon_room)
     e.core.registers.geometry.rooms.vertices = vertex_room;
     e.core.registers.geometry.rooms.polygons = polygon_room;
     return e;
+}
+
+/* ---- Free numbers */
+
+/* Something in every one of them: the waiting vertices past the count, the queue above its last command, the parameters
+ * past those held. */
+static inline void fill_free(nauvelppi_engine *e)
+{
+    nauvelppi_waiting *w = &e->core.registers.geometry.waiting;
+    int32_t *const waiting[] = {w->first, w->second, w->third};
+    for (size_t k = w->count; k < COUNT(waiting); k++)
+        for (size_t i = 0; i < 5; i++)
+            waiting[k][i] = -(int32_t)(5 * k + i) - 1000000;
+    for (int bits = 0; bits < 32; bits += 8)
+        if (commands(e->stream.queue) >> bits == 0)
+            e->stream.queue |= UINT32_C(0xff) << bits;
+    for (size_t i = e->stream.count; i < COUNT(e->stream.held); i++)
+        e->stream.held[i] = 0xfee00000u + (uint32_t)i;
 }
 
 #endif

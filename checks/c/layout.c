@@ -91,6 +91,8 @@ static void marks(const char *name, const nauvelppi_engine *engine)
 
 static int32_t vertices[5];
 static uint32_t polygons[3];
+/* Three words of no commands, and a hole. */
+static const uint32_t words[] = {0, 0, 0, 0x00110015};
 
 /* The marked engine is not sound: each call hands it back as it is, with number 1 and place 0. */
 static void handed_back(const char *name, nauvelppi_engine_answer r)
@@ -106,6 +108,11 @@ static void engine_answers(nauvelppi_engine e)
     handed_back("nauvelppi_port_write", nauvelppi_port_write(e, 0, 0, vertices, 5, polygons, 3));
     handed_back("nauvelppi_clear_error", nauvelppi_clear_error(e));
     handed_back("nauvelppi_clear_overflow", nauvelppi_clear_overflow(e));
+    nauvelppi_list_answer w = nauvelppi_words(e, words, COUNT(words), vertices, 5, polygons, 3);
+    check(w.number == 1, "nauvelppi_words", "number");
+    check(w.place == 0, "nauvelppi_words", "place");
+    check(w.taken == 0, "nauvelppi_words", "taken");
+    marks("nauvelppi_words", &w.engine);
     nauvelppi_call_answer r = nauvelppi_word_in_place(&e, 0, vertices, 5, polygons, 3);
     check(r.number == 1, "nauvelppi_word_in_place", "number");
     check(r.place == 0, "nauvelppi_word_in_place", "place");
@@ -113,7 +120,7 @@ static void engine_answers(nauvelppi_engine e)
 }
 
 /* Each member of the other answers with a value of its own: the number on a refusal, the rest where accepted. */
-static void other_answers(nauvelppi_engine not_sound)
+static void list_answers(void)
 {
     /* 15h; then an address that is no port */
     static const uint8_t log[16] = {0x54, 4, 0, 4, 0, 0, 0, 0, 1};
@@ -123,6 +130,15 @@ static void other_answers(nauvelppi_engine not_sound)
     packed = nauvelppi_pack(log, 16, output, sizeof output);
     check(packed.number == 5 && packed.place == 1 && packed.length == 0, "nauvelppi_answer", "number or place");
 
+    nauvelppi_engine e = nauvelppi_start(1, 1).engine;
+    nauvelppi_list_answer w = nauvelppi_words(e, words, 3, vertices, 5, polygons, 3);
+    check(w.number == 0 && w.place == 0 && w.taken == 3, "nauvelppi_list_answer", "taken");
+    w = nauvelppi_words(e, words + 1, 3, vertices, 5, polygons, 3);
+    check(w.number == 3 && w.place == 2 && w.taken == 2, "nauvelppi_list_answer", "number or place");
+}
+
+static void read_answers(nauvelppi_engine not_sound)
+{
     nauvelppi_engine e = nauvelppi_start(1, 1).engine;
     nauvelppi_transform *t = &e.core.registers.transform;
     t->pair.level = 31;
@@ -164,6 +180,7 @@ int main(void)
     marks("nauvelppi_engine", &m.engine);
     check(m.after == mark(sizeof m.after, 32), "nauvelppi_engine", "another size");
     engine_answers(m.engine);
-    other_answers(m.engine);
+    list_answers();
+    read_answers(m.engine);
     return all_passed();
 }

@@ -66,15 +66,22 @@ static void begin(void)
 
 static size_t cases;
 
-/* The packed word is accepted unless a port command is begun; so is the write, to the port begun or to any, unless a
- * packed word is. */
+/* The packed word is accepted, also as a list, unless a port command is begun; so is the write, to the port begun or to
+ * any, unless a packed word is; a list of no words always is. */
 static void is_sound(const char *name)
 {
+    const uint32_t word = 0;
     nauvelppi_engine given = e;
     int packed = commands(stream->queue) != 0 || stream->dummy;
     uint32_t port = PORT(stream->port ? stream->port : 0x20);
-    check(nauvelppi_word(e, 0, vertices, COUNT(vertices), polygons, COUNT(polygons)).number == (stream->port ? 4 : 0),
+    check(nauvelppi_word(e, word, vertices, COUNT(vertices), polygons, COUNT(polygons)).number
+              == (stream->port ? 4 : 0),
           name, "another number, word");
+    check(nauvelppi_words(e, &word, 1, vertices, COUNT(vertices), polygons, COUNT(polygons)).number
+              == (stream->port ? 4 : 0),
+          name, "another number, list of a word");
+    check(nauvelppi_words(e, &word, 0, vertices, COUNT(vertices), polygons, COUNT(polygons)).number == 0, name,
+          "another number, empty list");
     check(nauvelppi_port_write(e, port, 0, vertices, COUNT(vertices), polygons, COUNT(polygons)).number
               == (packed ? 4 : 0),
           name, "another number, port write");
@@ -85,7 +92,7 @@ static void is_sound(const char *name)
     check(nauvelppi_clear_error(e).number == 0, name, "another number, error cleared");
     check(nauvelppi_clear_overflow(e).number == 0, name, "another number, overflow cleared");
     check(same_cells(&e, &given), name, "the engine that was passed by value is changed");
-    nauvelppi_call_answer r = nauvelppi_word_in_place(&e, 0, vertices, COUNT(vertices), polygons, COUNT(polygons));
+    nauvelppi_call_answer r = nauvelppi_word_in_place(&e, word, vertices, COUNT(vertices), polygons, COUNT(polygons));
     check(r.number == (given.stream.port ? 4 : 0), name, "another number, word in place");
     e = given;
     cases++;
@@ -98,11 +105,21 @@ static void handed_back(const char *name, nauvelppi_engine_answer r)
     check(same_cells(&r.engine, &e), name, "the engine is changed");
 }
 
+static void list_handed_back(const char *name, nauvelppi_list_answer r)
+{
+    check(r.number == 1, name, "another number, list");
+    check(r.place == 0 && r.taken == 0, name, "another place, list");
+    check(same_cells(&r.engine, &e), name, "the engine is changed, list");
+}
+
 static void word_and_write(const char *name, uint32_t word, uint32_t address, size_t vertices_length,
                            size_t polygons_length)
 {
     nauvelppi_engine own = e;
     handed_back(name, nauvelppi_word(e, word, vertices, vertices_length, polygons, polygons_length));
+    for (size_t count = 0; count < 2; count++)
+        list_handed_back(name,
+                         nauvelppi_words(e, &word, count, vertices, vertices_length, polygons, polygons_length));
     handed_back(name, nauvelppi_port_write(e, address, 5, vertices, vertices_length, polygons, polygons_length));
     nauvelppi_call_answer r =
         nauvelppi_word_in_place(&own, word, vertices, vertices_length, polygons, polygons_length);

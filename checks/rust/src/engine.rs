@@ -1,4 +1,5 @@
-//! The engine: start, the word call, the port write call and what can be read between calls (document 01).
+//! The engine: start, the word call, the port write call and what can be read between calls (document 01), a whole list
+//! or log in one call (document 02, T-01).
 
 use crate::geometry::{Buffers, Counts, Geometry, MOST_POLYGONS, MOST_VERTICES, POLYGON_NUMBERS, VERTEX_NUMBERS};
 use crate::matrix::Matrix;
@@ -68,24 +69,36 @@ impl Engine {
         Ok(())
     }
 
-    /// Takes every word of a list, up to the first that is refused; the words taken and that refusal.
+    /// Takes every word of a list, up to the first that is refused; the words taken, and that refusal at its word. An
+    /// empty list gets 2 too (document 02, T-01).
     pub fn feed_words(&mut self, list: &[u8], buffers: &mut Buffers) -> (usize, Option<Refused>) {
-        for (place, word) in words(list).enumerate() {
-            if let Err(refusal) = self.word(word, buffers) {
-                return (place, Some(refusal.at(place)));
-            }
-        }
-        (list.len() / 4, None)
+        self.feed(words(list), buffers, Engine::word)
     }
 
-    /// Makes every port write of a log, up to the first that is refused; the writes made and that refusal.
+    /// Makes every port write of a log, in the same way.
     pub fn feed_writes(&mut self, log: &[u8], buffers: &mut Buffers) -> (usize, Option<Refused>) {
-        for (place, (address, value)) in pairs(log).enumerate() {
-            if let Err(refusal) = self.write(address, value, buffers) {
+        let write = |engine: &mut Self, (address, value), buffers: &mut Buffers| engine.write(address, value, buffers);
+        self.feed(pairs(log), buffers, write)
+    }
+
+    /// Makes a call for each item; without one, the buffers are tested alone. Each call tests them for itself.
+    #[inline]
+    fn feed<T>(
+        &mut self,
+        items: impl ExactSizeIterator<Item = T>,
+        buffers: &mut Buffers,
+        call: impl Fn(&mut Self, T, &mut Buffers) -> Result<(), Refusal>,
+    ) -> (usize, Option<Refused>) {
+        let count = items.len();
+        if count == 0 {
+            return (0, self.check(buffers).err().map(Refused::from));
+        }
+        for (place, item) in items.enumerate() {
+            if let Err(refusal) = call(self, item, buffers) {
                 return (place, Some(refusal.at(place)));
             }
         }
-        (log.len() / 8, None)
+        (count, None)
     }
 
     /// Both buffers hold their rooms (number 2).

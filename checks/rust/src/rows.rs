@@ -1,10 +1,10 @@
-//! Document 01, Rows to check, against this implementation.
+//! Document 01, Rows to check, and document 02's examples, against this implementation.
 
 use crate::engine::Engine;
 use crate::geometry::{Buffers, List};
 use crate::matrix::UNIT;
 use crate::pack::pack;
-use crate::refusal::Refusal;
+use crate::refusal::{Refusal, Refused};
 use crate::report::{replay_report, unpack_report, Input};
 use crate::stream::commands;
 use crate::table::{known, parameters, port};
@@ -35,6 +35,11 @@ impl Bench {
     fn word(&mut self, word: u32) -> Result<(), Refusal> {
         let mut buffers = Buffers { vertices: &mut self.vertices, polygons: &mut self.polygons };
         self.engine.word(word, &mut buffers)
+    }
+
+    fn list(&mut self, list: &[u32]) -> (usize, Option<Refused>) {
+        let mut buffers = Buffers { vertices: &mut self.vertices, polygons: &mut self.polygons };
+        self.engine.feed_words(&to_bytes(list), &mut buffers)
     }
 
     fn error(&self) -> bool {
@@ -204,6 +209,37 @@ fn scale_leaves_the_vector_matrix() {
     bench.run(0x1B, &[8192, 8192, 8192]);
     assert_eq!(bench.engine.direction(), [4096, 0, 0, 0, 4096, 0, 0, 0, 4096]);
     assert_eq!(bench.engine.clip()[0], 8192);
+}
+
+#[test]
+fn a_list_up_to_a_hole() {
+    assert_eq!(Bench::new(1, 1).list(&[0, 0x0011_0015]), (1, Some(Refusal::Hole.at(1))));
+}
+
+#[test]
+fn a_list_of_any_length() {
+    assert_eq!(Bench::new(1, 1).list(&[0; 8193]), (8193, None));
+}
+
+#[test]
+fn an_empty_list_with_a_port_begun() {
+    let mut bench = Bench::new(1, 1);
+    bench.run(0x23, &[0]);
+    assert_eq!(bench.list(&[]), (0, None));
+    assert_eq!(bench.list(&[0]), (0, Some(Refusal::Pending.at(0))));
+    assert!(bench.engine.pending());
+}
+
+#[test]
+fn an_empty_list_with_short_buffers() {
+    let refused = (0, Some(Refusal::ShortBuffer.at(0)));
+    let (mut vertices, mut polygons) = (Bench::new(1, 1), Bench::new(1, 1));
+    vertices.vertices.pop();
+    polygons.polygons.pop();
+    for mut bench in [vertices, polygons] {
+        assert_eq!(bench.list(&[]), refused);
+        assert_eq!(bench.list(&[0x0011_0015]), refused);
+    }
 }
 
 #[test]

@@ -2,13 +2,13 @@
 // Prints the packed length and, for each side, the number answered, how many were taken, the used counts and the status
 // word; or the packer's refusal. That both sides are equal is proved in the crate equivalence; here it can be watched.
 use equivalence::run_both;
-use feeding::Fed;
 use feeding::polygon_buffer;
 use feeding::vertex_buffer;
 use libc::STDIN_FILENO;
 use libc::STDOUT_FILENO;
 use registers::status;
 use state::Engine;
+use state::ListAnswer;
 use state::MOST_POLYGONS;
 use state::MOST_VERTICES;
 use stream::is_input;
@@ -37,7 +37,7 @@ fn print_refused(number: u32, place: u32) {
     print_text(b"\n");
 }
 
-fn print_end(name: &[u8], end: Fed) {
+fn print_end(name: &[u8], end: ListAnswer) {
     let used = end.engine.core.registers.geometry.used;
     let read = status(end.engine);
     print_number(name, end.number as u64);

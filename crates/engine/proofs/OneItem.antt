@@ -10,12 +10,13 @@ use borrow.Author.Tests.{eqb-true, eqb-false}
 use Rattle.stream.specs.Pending.{Pending, soundPending}
 use Rattle.stream.specs.Step.{Step, refused, accepted}
 use Rattle.stream.specs.Call.{Machine, Reply, reply, afterStep, callBy}
+use Rattle.stream.specs.Feed.{Fed, fed, oneMoreTaken, feed, listBy}
+use Rattle.stream.proofs.FeedLaws.{list-some}
 use Rattle.state.specs.declared.Core.{Core}
 use Rattle.state.specs.declared.Engine.{Engine}
 use Rattle.state.specs.declared.Answer.{Answer}
 use Rattle.polygons.specs.Buffers.{Buffered}
 use Rattle.execute.specs.Call.{engineRules, machineOf, replyOf, GivenBack}
-use Rattle.feeding.specs.Feed.{Fed, fed, oneMoreTaken, feed}
 
 module _ {State A : Type 0} (call : Machine State → A → Reply State) (m : Machine State) (a : A) where
   one : feed call m (a ∷ []) ≡ fed (cond (eqb (call m a .number) 0) 1 0) (call m a .number) (call m a .left)
@@ -53,13 +54,15 @@ module _ {A : Type 0} (step : Pending → A → Step) (m : Machine (Buffered Cor
 module _ {A : Type 0} (step : Pending → A → Step) (e : Engine) (vertices : List ℤ) (polygons : List ℕ) (a : A)
     (taken : ℕ) (r : Answer) (vs : List ℤ) (ps : List ℕ)
     (is : fed taken (r .number) (machineOf (r .engine) vs ps)
-    ≡ feed (callBy engineRules step) (machineOf e vertices polygons) (a ∷ []))
+    ≡ listBy engineRules step (machineOf e vertices polygons) (a ∷ []))
     (place : r .place ≡ 0) where
   abbrev x : Reply (Buffered Core)
   x = callBy engineRules step (machineOf e vertices polygons) a
 
   told : fed taken (r .number) (machineOf (r .engine) vs ps) ≡ fed (cond (eqb (x .number) 0) 1 0) (x .number) (x .left)
-  told = is ∙ one (callBy engineRules step) (machineOf e vertices polygons) a
+  told =
+      is ∙ list-some engineRules step (machineOf e vertices polygons) a []
+      ∙ one (callBy engineRules step) (machineOf e vertices polygons) a
 
   pub one-reply : replyOf r vs ps ≡ x
   one-reply = λ i. record {

@@ -1,8 +1,12 @@
 -- Demand 3 of the engine, from demand 3 over any engine; and that the list of "Equal ends" leaves nothing out.
+use mathlib.Core.List.{List}
 use mathlib.Core.Path.{_≡_, refl}
+use Prim.Native.Nat.{ℕ}
+use lib.IntN.{ℤ}
 use Rattle.stream.specs.Command.{Command, Complete}
 use Rattle.stream.specs.Call.{Machine}
 use Rattle.stream.specs.Demand3.{Usable}
+use Rattle.stream.proofs.CallLaws.{Keeping}
 use Rattle.stream.proofs.Demands.{demand3}
 use Rattle.state.specs.declared.Pair.{Pair}
 use Rattle.state.specs.declared.Single.{Single}
@@ -12,6 +16,7 @@ use Rattle.state.specs.declared.Waiting.{Waiting}
 use Rattle.state.specs.declared.Counts.{Counts}
 use Rattle.state.specs.declared.Geometry.{Geometry}
 use Rattle.state.specs.declared.Core.{Core}
+use Rattle.state.specs.declared.Engine.{Engine}
 use Rattle.state.proofs.SoundLaws.{sound-parts}
 use Rattle.state.specs.Sound.{soundStream}
 use Rattle.polygons.specs.Buffers.{Buffered, buffered}
@@ -19,7 +24,7 @@ use Rattle.execute.proofs.Keeps.{execute-kept, long-enough-kept}
 use Rattle.execute.specs.Call.{exec, engineRules, machineOf}
 use Rattle.execute.proofs.Calls.{sound-core}
 use Rattle.equivalence.specs.EqualEnds.{transformOf, stacksOf, geometryOf, waitingOf, EqualEnds}
-use Rattle.equivalence.specs.Demand3.{EngineDemand3Holds}
+use Rattle.equivalence.specs.Demand3.{Start, EngineDemand3Holds}
 
 -- equal machines agree in every item
 pub all-equal : (a b : Machine (Buffered Core)) → a ≡ b → EqualEnds a b
@@ -146,19 +151,25 @@ all-listed a b r e =
 -- ---- the claim
 
 -- a command keeps the engine sound and the buffers long enough
-keeps : (c : Command) (s : Buffered Core) → Complete c → Usable engineRules s → Usable engineRules (exec c s)
+pub keeps : (c : Command) (s : Buffered Core) → Complete c → Usable engineRules s → Usable engineRules (exec c s)
 keeps c s w u =
     let k = execute-kept (c .byte) (c .parameters) s (u .is-sound) in
     record { is-sound = k .sound; is-long-enough = long-enough-kept s (exec c s) k (u .is-long-enough) }
 
-pub engine-demand3 : EngineDemand3Holds
+-- numbers 1 and 2 do not fall at the start
+pub start-usable : (e : Engine) (vertices : List ℤ) (polygons : List ℕ) → Start e vertices polygons
+    → Keeping (Usable engineRules) (machineOf e vertices polygons)
 unfolding soundStream
+start-usable e vertices polygons s = (
+  record { is-sound = sound-core e (s .is-sound); is-long-enough = s .long-enough },
+  sound-parts e (s .is-sound) .stream,
+)
+
+pub engine-demand3 : EngineDemand3Holds
 engine-demand3 capacity log e vertices polygons accepted s =
-    let m = machineOf e vertices polygons in
-    let usable : Usable engineRules (m .state) =
-    record { is-sound = sound-core e (s .is-sound); is-long-enough = s .long-enough } in
-    let d = demand3 engineRules keeps capacity log m accepted usable
-    (sound-parts e (s .is-sound) .stream) (s .none-pending) in
+    let u = start-usable e vertices polygons s in
+    let d = demand3 engineRules keeps capacity log (machineOf e vertices polygons) accepted (u .0) (u .1)
+    (s .none-pending) in
     record {
       writes-taken = d .writes-taken;
       words-taken = d .words-taken;
@@ -168,4 +179,5 @@ engine-demand3 capacity log e vertices polygons accepted s =
         none-after-words = d .none-after-words;
         right-length = d .right-length;
       };
+      words-in-one-call = d .words-in-one-call;
     }

@@ -1,5 +1,5 @@
 -- Demand 3 of the engine: document 01, "The two sides of demand 3". One claim about the whole log, over the definitions
--- that the contracts of `pack`, `port_write` and `word` cite.
+-- that the contracts of `pack`, `port_write`, `word` and `feed_words` cite.
 use mathlib.Core.Bool.{true, false}
 use mathlib.Core.List.{List}
 use mathlib.Core.Path.{_≡_}
@@ -9,12 +9,12 @@ use lib.ListN.{length}
 use Rattle.stream.specs.Pending.{isPending}
 use Rattle.stream.specs.Read.{writes}
 use Rattle.stream.specs.Pack.{pack}
-use Rattle.stream.specs.Demand3.{after, AllTaken}
+use Rattle.stream.specs.Feed.{fed, after, AllTaken}
 use Rattle.state.specs.declared.Engine.{Engine}
 use Rattle.state.specs.Sound.{pendingOf, sound}
 use Rattle.polygons.specs.Buffers.{buffered}
 use Rattle.execute.specs.Execute.{buffersLong}
-use Rattle.execute.specs.Call.{machineOf, wordReply, portReply}
+use Rattle.execute.specs.Call.{machineOf, wordReply, portReply, wordsReply}
 use Rattle.equivalence.specs.EqualEnds.{SidesAgree}
 
 -- "At the start both sides have equal engines, sound and with no command begun, and equal lent lists, on which number 2
@@ -34,6 +34,10 @@ pub record EngineDemand3 (capacity : ℕ) (log : List ℕ) (e : Engine) (vertice
   pub words-taken : AllTaken wordReply (machineOf e vertices polygons) (pack capacity log .words)
   pub sides-agree : SidesAgree log (length (pack capacity log .words))
       (after portReply (machineOf e vertices polygons) (writes log))
+      (after wordReply (machineOf e vertices polygons) (pack capacity log .words))
+  -- T-01: "Demands 2 and 3 read the same for either way of feeding": the same words in one call
+  pub words-in-one-call : wordsReply (machineOf e vertices polygons) (pack capacity log .words)
+      ≡ fed (length (pack capacity log .words)) 0
       (after wordReply (machineOf e vertices polygons) (pack capacity log .words))
 
 -- "The packer accepts a log when it answers number 0; the packed words are then its output up to the length."

@@ -4,33 +4,34 @@ ghost use mathlib.Core.Path.{_≡_};
 ghost use Rattle.equivalence.specs.Demand3.{Start};
 ghost use Rattle.equivalence.specs.Calls.{lent};
 ghost use Rattle.equivalence.specs.Both.{Ran, BothAgree};
-use feeding::Fed;
-use feeding::feed_words;
-use feeding::feed_writes;
+use engine::feed_words;
+use engine::feed_writes;
 use packer::pack;
 use state::Engine;
+use state::ListAnswer;
 use stream::OutputAnswer;
 
-// What the packer answered, and both ends: how many were taken, the first refusal's number or 0, the engine.
+// What the packer answered, and both ends.
 pub struct BothEnds {
     pub packed: OutputAnswer,
-    pub writes: Fed,
-    pub words: Fed,
+    pub writes: ListAnswer,
+    pub words: ListAnswer,
 }
 
 // No item was fed.
-fn none_fed(e: Engine) -> Fed
-    ensures { λ r. ⌜ r ≡ record { taken = 0; number = 0; engine = e } ⌝ }
+fn none_fed(e: Engine) -> ListAnswer
+    ensures { λ r. ⌜ r ≡ record { number = 0; place = 0; taken = 0; engine = e } ⌝ }
 {
-    Fed {
-        taken: 0,
+    ListAnswer {
         number: 0,
+        place: 0,
+        taken: 0,
         engine: e,
     }
 }
 
-// Packs a log into `output` and runs both sides, each on an engine of its own: the port writes with the first two
-// buffers, the packed words with the second two. Where the log is accepted, the engine is sound with no command
+// Packs a log into `output` and runs both sides, each in one call on an engine of its own: the port writes with the
+// first two buffers, the packed words with the second two. Where the log is accepted, the engine is sound with no command
 // pending, and the buffers are long enough and hold the same, nothing is refused and both ends are equal.
 pub fn run_both(
     e: Engine,

@@ -1,7 +1,7 @@
--- Both calls keep the engine sound, the rooms and the lengths of the buffers, whatever they answer.
+-- The calls keep the engine sound, the rooms and the lengths of the buffers, whatever they answer.
 use mathlib.Core.Bool.{true, and-eq-true-iff}
 use mathlib.Core.List.{List}
-use mathlib.Core.Path.{_≡_, refl}
+use mathlib.Core.Path.{_≡_, refl, sym, subst}
 use Prim.Native.Nat.{ℕ}
 use lib.IntN.{ℤ}
 use lib.ListN.{length}
@@ -9,15 +9,19 @@ use Rattle.stream.specs.Pending.{soundPending}
 use Rattle.stream.specs.Command.{Command, Complete, Write}
 use Rattle.stream.specs.Step.{wordStep, portStep}
 use Rattle.stream.specs.Call.{Machine}
+use Rattle.stream.specs.Feed.{Fed}
 use Rattle.stream.proofs.StepLaws.{word-keeps, port-keeps}
 use Rattle.stream.proofs.CallLaws.{Keeping, call-keeps}
+use Rattle.stream.proofs.FeedLaws.{list-keeps}
 use Rattle.state.specs.declared.Core.{Core}
 use Rattle.state.specs.declared.Engine.{Engine}
+use Rattle.state.specs.declared.ListAnswer.{ListAnswer}
 use Rattle.state.specs.Sound.{soundCore, pendingOf, soundStream, sound}
 use Rattle.state.proofs.SoundLaws.{sound-parts}
 use Rattle.polygons.specs.Buffers.{Buffered, buffered}
 use Rattle.execute.proofs.Keeps.{CoreKept, core-kept-more, execute-kept}
 use Rattle.execute.specs.Call.{exec, engineRules, machineOf, wordReply, portReply}
+use Rattle.execute.specs.Call.{fedOf, wordsReply, writesReply}
 use Rattle.execute.proofs.Calls.{sound-core}
 
 -- an engine and its buffers after a call
@@ -61,3 +65,29 @@ module _ (e : Engine) (vertices : List ℤ) (polygons : List ℕ) where
         vertices-length = k .0 .vertices;
         polygons-length = k .0 .polygons;
       }
+
+-- ---- many items in one call
+
+module _ (e : Engine) (vertices : List ℤ) (polygons : List ℕ) (h : sound e ≡ true) (r : ListAnswer) (vs : List ℤ)
+    (ps : List ℕ) where
+  kept-from : {x : Fed (Buffered Core)} → Kept e vertices polygons (x .left) → fedOf r vs ps ≡ x
+      → EngineKept e vertices polygons (r .engine) vs ps
+  kept-from k told =
+      engine-kept e vertices polygons (r .engine) vs ps
+      (subst (λ (y : Fed (Buffered Core)). Kept e vertices polygons (y .left)) (sym told) k)
+
+  -- an answer that meets the contract of `feed_words`
+  pub words-kept : (ws : List ℕ) → fedOf r vs ps ≡ wordsReply (machineOf e vertices polygons) ws
+      → EngineKept e vertices polygons (r .engine) vs ps
+  words-kept ws =
+      kept-from
+      (list-keeps engineRules wordStep (machineOf e vertices polygons) (Kept e vertices polygons)
+      (kept-by-word e vertices polygons) ws (kept-at-first e vertices polygons h))
+
+  -- and of `feed_writes`
+  pub writes-kept : (ws : List Write) → fedOf r vs ps ≡ writesReply (machineOf e vertices polygons) ws
+      → EngineKept e vertices polygons (r .engine) vs ps
+  writes-kept ws =
+      kept-from
+      (list-keeps engineRules portStep (machineOf e vertices polygons) (Kept e vertices polygons)
+      (kept-by-port e vertices polygons) ws (kept-at-first e vertices polygons h))

@@ -1,4 +1,4 @@
--- What the definition of a call gives, case by case: the same for words and port writes.
+-- What the definition of a call of many items gives, case by case: the same for words and port writes.
 use mathlib.Core.Bool.{Bool, true, false, cond, _&&_}
 use mathlib.Core.List.{List}
 use mathlib.Core.Path.{_≡_, refl}
@@ -8,7 +8,9 @@ use lib.IntN.{ℤ}
 use lib.ListN.{length}
 use Rattle.stream.specs.Pending.{Pending}
 use Rattle.stream.specs.Step.{Step}
-use Rattle.stream.specs.Call.{Machine, reply, afterStep, callBy}
+use Rattle.stream.specs.Call.{Machine, callBy}
+use Rattle.stream.specs.Feed.{fed, feed, listBy}
+use Rattle.stream.proofs.FeedLaws.{list-usable}
 use Rattle.state.specs.declared.Core.{Core}
 use Rattle.state.specs.declared.Engine.{Engine}
 use Rattle.state.specs.Sound.{soundCore, pendingOf, soundStream, sound}
@@ -61,24 +63,33 @@ passed e vertices polygons = by (sound e) (isLong e vertices polygons) refl refl
     by true false p q z = absurd (omega arith)
     by false l p q z = absurd (omega arith)
 
--- ---- a call
+-- ---- many items in one call
 
-module _ {A : Type 0} (step : Pending → A → Step) (e : Engine) (vertices : List ℤ) (polygons : List ℕ) (a : A) where
-  abbrev m : Machine (Buffered Core)
-  m = machineOf e vertices polygons
+module _ {A : Type 0} (step : Pending → A → Step) (e : Engine) (vertices : List ℤ) (polygons : List ℕ) (items : List A)
+  where
+    abbrev m : Machine (Buffered Core)
+    m = machineOf e vertices polygons
 
-  abbrev number : ℕ
-  number = firstNumber e (length vertices) (length polygons)
+    abbrev number : ℕ
+    number = firstNumber e (length vertices) (length polygons)
 
-  -- number 1 or 2
-  pub refused-first : (number ≡ 0 → ⊥) → callBy engineRules step m a ≡ reply number m
-  unfolding firstNumber callBy sound soundStream
-  refused-first =
-      by (soundCore (e .core) && soundStream (e .stream)) (isLong e (length vertices) (length polygons))
-    where
-      by : (s l : Bool) → (_≡_ {A = ℕ} (cond s (cond l 0 2) 1) 0 → ⊥)
-          → cond s (cond l (afterStep engineRules m (step (pendingOf (e .stream)) a)) (reply 2 m)) (reply 1 m)
-          ≡ reply (cond s (cond l 0 2) 1) m
-      by true true n = absurd (n refl)
-      by true false n = refl
-      by false l n = refl
+    -- number 1 or 2
+    pub refused-first : (number ≡ 0 → ⊥) → listBy engineRules step m items ≡ fed 0 number m
+    unfolding firstNumber listBy sound soundStream
+    refused-first =
+        by (soundCore (e .core) && soundStream (e .stream)) (isLong e (length vertices) (length polygons))
+      where
+        by : (s l : Bool) → (_≡_ {A = ℕ} (cond s (cond l 0 2) 1) 0 → ⊥)
+            → cond s (cond l (feed (callBy engineRules step) m items) (fed 0 2 m)) (fed 0 1 m)
+            ≡ fed 0 (cond s (cond l 0 2) 1) m
+        by true true n = absurd (n refl)
+        by true false n = refl
+        by false l n = refl
+
+    -- neither: the items are fed
+    pub fed-first : number ≡ 0 → listBy engineRules step m items ≡ feed (callBy engineRules step) m items
+    unfolding soundStream
+    fed-first z =
+        let p = passed e (length vertices) (length polygons) z in
+        list-usable engineRules step m items
+        (record { is-sound = p .core; is-long-enough = p .long }, p .stream)

@@ -11,6 +11,7 @@ use Rattle.stream.specs.Pending.{Pending}
 use Rattle.stream.specs.Command.{Command}
 use Rattle.stream.specs.Step.{Step, accepted}
 use Rattle.stream.proofs.CallLaws.{run-append}
+use Rattle.stream.proofs.FeedLaws.{one-fed}
 use Rattle.stream.specs.Call.{Machine, Reply, machine, reply, run, afterStep, callBy}
 use Rattle.state.specs.declared.Core.{Core}
 use Rattle.state.specs.declared.Engine.{Engine}
@@ -22,7 +23,6 @@ use Rattle.turns.specs.Inside.{dueOf, pendingDue, givenBy, Turned}
 use Rattle.execute.specs.Call.{exec, engineRules}
 use Rattle.execute.specs.Inside.{firstNumber}
 use Rattle.execute.proofs.CallKeeps.{Kept}
-use Rattle.feeding.proofs.FeedLaws.{one-fed}
 use Rattle.feeding.proofs.LoopLaws.{Between, usable-call, still-long}
 
 module _ (e : Engine) (vertices : List ℤ) (polygons : List ℕ)

@@ -1,6 +1,7 @@
 -- Demands 2 and 3 of the calls that C makes, by their contracts alone. Logs and lists are bytes, little-endian words;
--- the contracts of `nauvelppi_word` and `nauvelppi_port_write` are those of `word` and `port_write`, and that of
--- `nauvelppi_word_in_place` is `word`'s too, of its answer and the record that it leaves (`inPlace`).
+-- the contracts of `nauvelppi_word`, `nauvelppi_port_write` and `nauvelppi_words` are those of `word`, `port_write` and
+-- `feed_words`, and that of `nauvelppi_word_in_place` is `word`'s too, of its answer and the record that it leaves
+-- (`inPlace`).
 use mathlib.Core.List.{List}
 use mathlib.Core.Path.{_≡_}
 use Prim.Native.Nat.{ℕ, _*_, _%_, _≤_}
@@ -23,7 +24,7 @@ pub record PackedForC (log : List ℕ) (packed : OutputAnswer) (old output : Lis
 abbrev pub packedBytes : OutputAnswer → List ℕ → List ℕ
 packedBytes packed output = take (4 * packed .length) output
 
--- Demand 3: port writes one by one, and packed words one by one
+-- Demand 3: port writes one by one, and packed words one by one or many in one call
 abbrev pub Demand3ForC : Type 0
 Demand3ForC =
     (log : List ℕ) (packed : OutputAnswer) (old output : List ℕ) (s t : Lent) → PackedForC log packed old output

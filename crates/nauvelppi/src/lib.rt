@@ -3,6 +3,7 @@
 ghost use mathlib.Core.Path.{_≡_};
 ghost use lib.ListN.{length};
 ghost use Rattle.stream.specs.Command.{write};
+ghost use Rattle.stream.specs.Feed.{placeOf};
 ghost use Rattle.stream.specs.Pack.{pack};
 ghost use Rattle.stream.specs.Unpack.{unpack};
 ghost use Rattle.conversions.specs.Convert.{convert, longestOutput};
@@ -10,9 +11,11 @@ ghost use Rattle.state.specs.Fresh.{start};
 ghost use Rattle.registers.specs.Registers.{readStatus, readClipMatrix, readVectorMatrix, readOverflow};
 ghost use Rattle.registers.specs.Registers.{clearError, clearOverflow};
 ghost use Rattle.execute.specs.Call.{machineOf, replyOf, GivenBack, wordReply, portReply};
+ghost use Rattle.execute.specs.Call.{fedOf, FirstGivenBack, wordsReply};
 ghost use Rattle.nauvelppi.specs.InPlace.{inPlace};
 ghost use Rattle.nauvelppi.specs.Bytes.{onAllBytes, StoresBytes};
 use conversions::convert_bytes;
+use engine::feed_words;
 use engine::port_write;
 use engine::word;
 use registers::CornerAnswer;
@@ -27,6 +30,7 @@ use registers::status;
 use registers::vector_matrix;
 use state::Answer;
 use state::Engine;
+use state::ListAnswer;
 use stream::OutputAnswer;
 use stream::longest_list;
 use stream::longest_log;
@@ -136,6 +140,22 @@ pub extern "C" fn nauvelppi_word_in_place(
         number: r.number,
         place: r.place,
     }
+}
+
+// A whole list in one call, as `engine::feed_words`: refused with 1, 2, and then with the first refused word's number.
+#[no_mangle]
+pub extern "C" fn nauvelppi_words(
+    e: Engine,
+    words: &[u32],
+    vertices: &mut [i32],
+    polygons: &mut [u32],
+) -> ListAnswer
+    ensures { λ r. ⌜ fedOf r (now (vertices .exit)) (now (polygons .exit))
+        ≡ wordsReply (machineOf e (now (vertices .entry)) (now (polygons .entry))) (now (words .entry)) ⌝ }
+    ensures { λ r. ⌜ r .place ≡ placeOf (r .number) (r .taken) ⌝ }
+    ensures { λ r. ⌜ FirstGivenBack e r ⌝ }
+{
+    feed_words(e, words, &mut *vertices, &mut *polygons)
 }
 
 // The status word, as `registers::status`.

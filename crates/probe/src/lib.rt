@@ -1,17 +1,18 @@
-// Entries for the checks alone; the product has none of them. A whole list or log, or a piece of one, fed in one call:
-// for the comparison and the benchmark of `checks/rust`. An engine with a mark in every member: for `checks/c`, which
-// compares the layout of C's structs with it.
+// Entries for the checks alone; the product has none of them. A whole log, or a piece of one, in one call: for the
+// comparison and the benchmark of `checks/rust`. An engine with a mark in every member: for `checks/c`, which compares
+// the layout of C's structs with it.
 ghost use mathlib.Core.Path.{_≡_};
-ghost use Rattle.execute.specs.Call.{machineOf};
-ghost use Rattle.feeding.specs.Feed.{feedAs, fedOf, FirstGivenBack};
+ghost use Rattle.stream.specs.Read.{writes};
+ghost use Rattle.stream.specs.Feed.{placeOf};
+ghost use Rattle.execute.specs.Call.{machineOf, fedOf, FirstGivenBack, writesReply};
 ghost use Rattle.probe.specs.Marks.{markedTransform, markedGeometry, markedStacks, markedStream, marked};
-use feeding::Fed;
-use feeding::feed_as;
+use engine::feed_writes;
 use state::Coordinates;
 use state::Core;
 use state::Counts;
 use state::Engine;
 use state::Geometry;
+use state::ListAnswer;
 use state::Pair;
 use state::Registers;
 use state::Single;
@@ -20,20 +21,20 @@ use state::Stream;
 use state::Transform;
 use state::Waiting;
 
-// Packed words, or the port writes of a log, one by one until one is refused, as `feeding::feed_as`.
+// The port writes of a log in one call, as `engine::feed_writes`.
 #[no_mangle]
-pub extern "C" fn probe_feed(
-    log: bool,
+pub extern "C" fn probe_feed_writes(
     e: Engine,
-    words: &[u32],
+    log: &[u32],
     vertices: &mut [i32],
     polygons: &mut [u32],
-) -> Fed
+) -> ListAnswer
     ensures { λ r. ⌜ fedOf r (now (vertices .exit)) (now (polygons .exit))
-        ≡ feedAs log (machineOf e (now (vertices .entry)) (now (polygons .entry))) (now (words .entry)) ⌝ }
+        ≡ writesReply (machineOf e (now (vertices .entry)) (now (polygons .entry))) (writes (now (log .entry))) ⌝ }
+    ensures { λ r. ⌜ r .place ≡ placeOf (r .number) (r .taken) ⌝ }
     ensures { λ r. ⌜ FirstGivenBack e r ⌝ }
 {
-    feed_as(log, e, words, &mut *vertices, &mut *polygons)
+    feed_writes(e, log, &mut *vertices, &mut *polygons)
 }
 
 // An engine, and a number behind it, where a C struct of the same members has it.

@@ -13,20 +13,21 @@ use Rattle.words.specs.Words.{wordsOf}
 use Rattle.stream.specs.Call.{Machine}
 use Rattle.stream.specs.Read.{writes}
 use Rattle.stream.specs.Input.{isInput}
+use Rattle.stream.specs.Step.{wordStep, portStep}
+use Rattle.stream.specs.Feed.{Fed}
 use Rattle.stream.proofs.UnpackLaws.{length-writes}
+use Rattle.stream.proofs.FeedLaws.{list-within}
 use Rattle.state.specs.declared.Core.{Core}
 use Rattle.state.specs.declared.Engine.{Engine}
 use Rattle.state.specs.declared.Answer.{Answer}
+use Rattle.state.specs.declared.ListAnswer.{ListAnswer}
 use Rattle.state.specs.Fresh.{start}
 use Rattle.state.specs.Sound.{sound}
 use Rattle.state.proofs.SoundLaws.{sound-parts}
 use Rattle.state.proofs.GeometryLaws.{geometry-ranges, room-limits}
 use Rattle.polygons.specs.Buffers.{Buffered, buffered, longEnough}
-use Rattle.execute.specs.Call.{machineOf, wordReply, portReply}
-use Rattle.execute.proofs.CallKeeps.{EngineKept}
-use Rattle.feeding.specs.declared.Fed.{Fed as FedAnswer}
-use Rattle.feeding.specs.Feed.{Fed, feedAs, fedOf}
-use Rattle.feeding.proofs.Keeps.{taken-within, words-kept, writes-kept}
+use Rattle.execute.specs.Call.{engineRules, machineOf, fedOf, feedAs}
+use Rattle.execute.proofs.CallKeeps.{EngineKept, words-kept, writes-kept}
 use Rattle.listing.specs.Text.{refusedLine}
 use Rattle.listing.specs.Buffer.{Puts}
 use Rattle.listing.proofs.PutLaws.{reported}
@@ -34,18 +35,18 @@ use Rattle.replays.specs.Replay.{refusalText, ran, replay, Reports}
 
 pub run-taken : (log : Bool) (m : Machine (Buffered Core)) (ws : List ℕ) → feedAs log m ws .taken ≤ length ws
 unfolding feedAs
-run-taken true m ws = omega (arith, taken-within portReply m (writes ws), length-writes ws)
-run-taken false m ws = taken-within wordReply m ws
+run-taken true m ws = omega (arith, list-within engineRules portStep m (writes ws), length-writes ws)
+run-taken false m ws = list-within engineRules wordStep m ws
 
 -- what a run leaves
-pub record RunKept (e : Engine) (vertices : List ℤ) (polygons : List ℕ) (r : FedAnswer) (vs : List ℤ) (ps : List ℕ)
+pub record RunKept (e : Engine) (vertices : List ℤ) (polygons : List ℕ) (r : ListAnswer) (vs : List ℤ) (ps : List ℕ)
     (count : ℕ) : Type 0 where
   pub is-sound : sound (r .engine) ≡ true
   pub taken : r .taken ≤ count
   pub long : longEnough (r .engine .core .registers .geometry .rooms) (length vs) (length ps)
       ≡ longEnough (e .core .registers .geometry .rooms) (length vertices) (length polygons)
 
-run-kept-by : (e : Engine) (vertices : List ℤ) (polygons : List ℕ) (r : FedAnswer) (vs : List ℤ) (ps : List ℕ)
+run-kept-by : (e : Engine) (vertices : List ℤ) (polygons : List ℕ) (r : ListAnswer) (vs : List ℤ) (ps : List ℕ)
     (count : ℕ) → EngineKept e vertices polygons (r .engine) vs ps → r .taken ≤ count
     → RunKept e vertices polygons r vs ps count
 run-kept-by e vertices polygons r vs ps count k h =
@@ -56,7 +57,7 @@ run-kept-by e vertices polygons r vs ps count k h =
     }
 
 pub run-kept : (log : Bool) (e : Engine) (vertices : List ℤ) (polygons : List ℕ) → sound e ≡ true
-    → (ws : List ℕ) (r : FedAnswer) (vs : List ℤ) (ps : List ℕ)
+    → (ws : List ℕ) (r : ListAnswer) (vs : List ℤ) (ps : List ℕ)
     → fedOf r vs ps ≡ feedAs log (machineOf e vertices polygons) ws
     → RunKept e vertices polygons r vs ps (length ws)
 unfolding feedAs

@@ -8,11 +8,11 @@ use lib.IntN.{ℤ}
 use lib.ListN.{length}
 use Rattle.words.specs.Words.{wordsOf, over}
 use Rattle.stream.specs.Input.{isInput}
+use Rattle.stream.specs.Feed.{Fed}
 use Rattle.state.specs.declared.Core.{Core}
 use Rattle.state.specs.Fresh.{start}
 use Rattle.polygons.specs.Buffers.{Buffered, buffered}
-use Rattle.execute.specs.Call.{machineOf}
-use Rattle.feeding.specs.Feed.{Fed, feedAs}
+use Rattle.execute.specs.Call.{machineOf, feedAs}
 use Rattle.listing.specs.Text.{ascii, numberLine, refusedLine}
 use Rattle.readout.specs.Readout.{machineText}
 use Rattle.replays.specs.declared.Source.{Source}

@@ -8,19 +8,19 @@ ghost use Rattle.stream.specs.Input.{mostWords};
 ghost use Rattle.io.specs.Counts.{Counts as Counted};
 ghost use Rattle.state.specs.Sound.{sound};
 ghost use Rattle.polygons.specs.Buffers.{longEnough};
-ghost use Rattle.execute.specs.Call.{machineOf};
-ghost use Rattle.feeding.specs.Feed.{feedAs, fedOf};
+ghost use Rattle.execute.specs.Call.{machineOf, fedOf, feedAs};
 ghost use Rattle.listing.specs.Buffer.{Puts};
 ghost use Rattle.replays.specs.Arguments.{isDigit, sourceOf, roomOf};
 ghost use Rattle.replays.specs.Replay.{refusalText, fedText, replay, replayAs, Reports};
-use feeding::Fed;
-use feeding::feed_as;
+use engine::feed_words;
+use engine::feed_writes;
 use listing::put_bytes;
 use listing::put_number_line;
 use listing::put_refused;
 use readout::put_engine;
 use state::Counts;
 use state::Engine;
+use state::ListAnswer;
 use stream::is_input;
 use stream::longest_list;
 use words::read_words;
@@ -97,7 +97,7 @@ fn put_refusal(text: &mut [u8], at: usize, number: u32, place: u32) -> usize
 }
 
 // What was fed, and the engine at its end.
-fn put_fed(text: &mut [u8], fed: Fed, vertices: &[i32], polygons: &[u32]) -> usize
+fn put_fed(text: &mut [u8], fed: ListAnswer, vertices: &[i32], polygons: &[u32]) -> usize
     requires { ⌜ (sound (fed .engine) ≡ true) × (fed .taken ≤ mostWords) ⌝ }
     requires { ⌜ longEnough (fed .engine .core .registers .geometry .rooms) (length (now vertices))
         (length (now polygons)) ≡ true ⌝ }
@@ -110,6 +110,23 @@ fn put_fed(text: &mut [u8], fed: Fed, vertices: &[i32], polygons: &[u32]) -> usi
     let refusal = put_number_line(text, 0, b"taken ", taken);
     let engine = put_refusal(text, refusal, fed.number, taken);
     put_engine(text, engine, fed.engine, vertices, polygons)
+}
+
+// A list, or the port writes of a log, in one call.
+fn feed_input(
+    log: bool,
+    e: Engine,
+    words: &[u32],
+    vertices: &mut [i32],
+    polygons: &mut [u32],
+) -> ListAnswer
+    ensures { λ r. ⌜ fedOf r (now (vertices .exit)) (now (polygons .exit))
+        ≡ feedAs log (machineOf e (now (vertices .entry)) (now (polygons .entry))) (now (words .entry)) ⌝ }
+{
+    if log {
+        return feed_writes(e, words, &mut *vertices, &mut *polygons);
+    }
+    feed_words(e, words, &mut *vertices, &mut *polygons)
 }
 
 // A run, and its report.
@@ -135,7 +152,7 @@ fn put_run(
         .left .state .polygons ⌝ }
     ensures { λ r. ⌜ r ≤ 433649 ⌝ }
 {
-    let fed = feed_as(log, e, words, &mut *vertices, &mut *polygons);
+    let fed = feed_input(log, e, words, &mut *vertices, &mut *polygons);
     put_fed(text, fed, vertices, polygons)
 }
 

@@ -159,6 +159,16 @@ pub struct Answer {
     pub engine: Engine,
 }
 
+// What a call of many words answers: 0, or the number that the first refused word is refused with; its index; how many
+// were taken; the engine after those.
+#[repr(C)]
+pub struct ListAnswer {
+    pub number: u32,
+    pub place: usize,
+    pub taken: usize,
+    pub engine: Engine,
+}
+
 fn fresh_transform() -> Transform
     ensures { λ r. ⌜ r ≡ freshTransform ⌝ }
 {

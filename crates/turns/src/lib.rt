@@ -268,13 +268,6 @@ pub fn is_packed(table: &Table, b: Begun) -> bool
     is_known_in(table, (b.queue % 256) as u8) | b.dummy
 }
 
-// How many items so many words are. For the crates above this one.
-pub fn items_in(log: bool, size: usize) -> usize
-    ensures { λ r. ⌜ r ≡ itemsIn log size ⌝ }
-{
-    if log { size / 2 } else { size }
-}
-
 // A turn over the items from the i-th on; `packed`, for a log: a packed word is pending. For the crates above this one.
 pub fn turn_at(
     table: &Table,

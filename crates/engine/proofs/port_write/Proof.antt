@@ -2,7 +2,7 @@
 use borrow.Author.Needs.{needs}
 use Rattle.stream.specs.Command.{write}
 use Rattle.stream.specs.Step.{portStep}
-use Rattle.feeding.specs.Feed.{feedAs}
+use Rattle.execute.specs.Call.{feedAs}
 use Rattle.engine.proofs.OneItem.{one-reply, one-given-back}
 use Rattle.engine.proofs.port_write.Statement.{statement}
 use Rattle.engine.proofs.port_write.Tie as tie

@@ -1,7 +1,7 @@
 -- `engine::word` meets its contract.
 use borrow.Author.Needs.{needs}
 use Rattle.stream.specs.Step.{wordStep}
-use Rattle.feeding.specs.Feed.{feedAs}
+use Rattle.execute.specs.Call.{feedAs}
 use Rattle.engine.proofs.OneItem.{one-reply, one-given-back}
 use Rattle.engine.proofs.word.Statement.{statement}
 use Rattle.engine.proofs.word.Tie as tie

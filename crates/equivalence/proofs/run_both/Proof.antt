@@ -3,7 +3,7 @@ use mathlib.Core.Path.{sym}
 use lib.Seq.{length-take-le}
 use borrow.Author.Needs.{needs}
 use Rattle.stream.proofs.OutputLaws.{stored-length}
-use Rattle.equivalence.proofs.BothLaws.{not-run, both-ran}
+use Rattle.equivalence.proofs.BothLaws.{not-run, not-placed, both-ran}
 use Rattle.equivalence.proofs.run_both.Statement.{statement}
 use Rattle.equivalence.proofs.run_both.Tie as tie
 
@@ -27,6 +27,8 @@ returns c =
         writes-ran = λ z. absurd (refused z);
         words-ran = λ z. absurd (refused z);
         refused = λ _. (not-run _ _ (c .before .none-fed .ensures), not-run _ _ (c .none-fed2 .ensures));
+        writes-place = not-placed (c .before .none-fed .ensures);
+        words-place = not-placed (c .none-fed2 .ensures);
       },
       λ z s p q. absurd (refused z),
     )
@@ -72,8 +74,9 @@ returns-2 c =
     let fed = c .before .before .before .before .before .before .before .before .before .before .before in
     let accepted = fed .before .before .before in
     let packed = accepted .before .before .before .before in
-    both-ran (packed .pack .ensures) (accepted .if1 .left) (fed .feed-writes .ensures .0)
-    (c .before .before .before .feed-words .ensures .0)
+    let writes = fed .feed-writes .ensures in
+    let words = c .before .before .before .feed-words .ensures in
+    both-ran (packed .pack .ensures) (accepted .if1 .left) (writes .0) (writes .1 .0) (words .0) (words .1 .0)
 
 pub run-both-spec : {M : Type 1} → statement M
 run-both-spec =

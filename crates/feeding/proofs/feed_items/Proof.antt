@@ -1,28 +1,11 @@
 -- `feeding::feed_items` meets its contract.
-use mathlib.Core.Path.{sym, ap, _∙_}
-use Prim.Native.Nat.{_<_}
+use mathlib.Core.Path.{ap}
 use native.Mathlib.Omega.{arith}
 use borrow.Author.Needs.{needs}
 use Rattle.state.specs.declared.Answer.{Answer}
-use Rattle.feeding.proofs.LoopLaws.{none-as, refused-as, told-none}
+use Rattle.feeding.proofs.LoopLaws.{refused-as, told-none}
 use Rattle.feeding.proofs.feed_items.Statement.{statement}
 use Rattle.feeding.proofs.feed_items.Tie as tie
-
-items-in-requires : tie.Need-items-in-requires
-items-in-requires c κs = search needs
-
-answered-requires : tie.Need-answered-requires
-answered-requires c κs = search needs
-
-returns : tie.Need-returns
-returns c =
-    let s = c .before .before .before .before .before in
-    let a = s .args in (
-      told-none (s .pre) (c .answered .result) (c .answered .ensures)
-          (none-as (a .e) (a .vertices .now) (a .polygons .now) (a .words .now) (a .log)
-          (sym (c .before .before .items-in .ensures) ∙ c .before .if1 .taken)),
-      ap (λ (x : Answer). x .place) (c .answered .ensures),
-    )
 
 parameter-table-requires : tie.Need-parameter-table-requires
 parameter-table-requires c κs = search needs
@@ -30,21 +13,18 @@ parameter-table-requires c κs = search needs
 first-number-requires : tie.Need-first-number-requires
 first-number-requires c κs = search needs
 
-answered-requires-2 : tie.Need-answered-requires-2
-answered-requires-2 c κs = search needs
+answered-requires : tie.Need-answered-requires
+answered-requires c κs = search needs
 
-returns-2 : tie.Need-returns-2
-returns-2 c =
-    let s = c .before .before .before .before .before .before .before .before .before in
-    let a = s .args in
-    let items = c .before .before .before .before .before .before .items-in in
-    let some : 0 < items .result = omega (arith, c .before .before .before .before .before .if1 .left) in (
-      told-none (s .pre) (c .answered2 .result) (c .answered2 .ensures)
+returns : tie.Need-returns
+returns c =
+    let s = c .before .before .before .before .before .before .before in
+    let a = s .args in (
+      told-none (s .pre) (c .answered .result) (c .answered .ensures)
           (refused-as (a .e) (a .vertices .now) (a .polygons .now) (a .words .now) (a .log)
-          (rw (items .ensures) at some)
           (c .before .before .first-number .result) (c .before .before .first-number .ensures)
-          (λ z. omega (arith, z, c .before .if2 .taken))),
-      ap (λ (x : Answer). x .place) (c .answered2 .ensures),
+          (λ z. omega (arith, z, c .before .if1 .taken))),
+      ap (λ (x : Answer). x .place) (c .answered .ensures),
     )
 
 feed-sound-requires : tie.Need-feed-sound-requires
@@ -56,21 +36,18 @@ same-length c = search needs
 same-length-2 : tie.Need-same-length-2
 same-length-2 c = search needs
 
-returns-3 : tie.Need-returns-3
-returns-3 c = search needs
+returns-2 : tie.Need-returns-2
+returns-2 c = search needs
 
 pub feed-items-spec : {M : Type 1} → statement M
 feed-items-spec =
     tie.close
     (tie.spec
-    items-in-requires
-    answered-requires
-    returns
     parameter-table-requires
     first-number-requires
-    answered-requires-2
-    returns-2
+    answered-requires
+    returns
     feed-sound-requires
     same-length
     same-length-2
-    returns-3)
+    returns-2)

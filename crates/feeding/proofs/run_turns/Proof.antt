@@ -22,12 +22,12 @@ use Rattle.execute.specs.declared.RegisterCommand.the-variants.{Geometry as Dra
 use Rattle.execute.specs.Execute.{runOperation, execute}
 use Rattle.stream.specs.Pending.{Pending}
 use Rattle.stream.specs.Call.{machine}
+use Rattle.stream.specs.Feed.{fed}
 use Rattle.turns.specs.declared.Begun.{Begun}
 use Rattle.turns.specs.Inside.{toCome, itemsIn}
-use Rattle.execute.specs.Call.{machineOf}
+use Rattle.execute.specs.Call.{machineOf, feedAs}
 use Rattle.execute.specs.Inside.{firstNumber}
 use Rattle.execute.proofs.Calls.{passed}
-use Rattle.feeding.specs.Feed.{fed, feedAs}
 use Rattle.feeding.specs.Inside.{coreFrom, engineFrom}
 use Rattle.feeding.proofs.Looping.{streamWith, Feeding, goes-on, looping-ran, same-size}
 use Rattle.feeding.proofs.Looping.{turn-less, core-level, looping-long}

@@ -1,6 +1,6 @@
 //! Cases of the engine calls: after every call number, place and record; both buffers entirely on a refusal and at
-//! the end, and there also what can be read. Of a piece of a list or a log that is fed in one call: number, how many
-//! were taken, record, both buffers.
+//! the end, and there also what can be read. Of a piece of a list or a log that is fed in one call: number, place, how
+//! many were taken, record, both buffers.
 
 use reference::engine::Engine;
 use reference::geometry::{MOST_POLYGONS, MOST_VERTICES};
@@ -50,7 +50,7 @@ fn start(vertices: usize, polygons: usize) -> Result<EngineAnswer, String> {
 }
 
 /// An engine that was just started, or one with a sound record.
-fn twin(random: &mut Random, begun: bool) -> Result<Twin, String> {
+pub fn twin(random: &mut Random, begun: bool) -> Result<Twin, String> {
     let record = if random.flag() {
         let rooms = records::rooms(random);
         start(rooms.vertices, rooms.polygons)?.engine
@@ -126,7 +126,7 @@ pub fn pieces_case(random: &mut Random, tally: &mut Tally) -> Result<(), String>
         let of_log = list.is_empty() || !log.is_empty() && random.flag();
         let (side, other) = if of_log { (&mut log, list) } else { (&mut list, log) };
         let size = piece_size(random).min(side.len());
-        let number = twin.piece(of_log, &side[..size], tally)?;
+        let number = twin.piece(of_log, &side[..size], tally)?.number;
         // The piece comes again where the other side has to end its command first.
         if number != Refusal::Pending.number() || other.is_empty() {
             // An address without its value is no write yet.
@@ -137,7 +137,7 @@ pub fn pieces_case(random: &mut Random, tally: &mut Tally) -> Result<(), String>
 }
 
 /// The words of a piece: mostly few, at times all that are left.
-fn piece_size(random: &mut Random) -> usize {
+pub fn piece_size(random: &mut Random) -> usize {
     match random.below(12) {
         0 => usize::MAX,
         1 => random.below(2),
@@ -208,7 +208,8 @@ pub fn short_case(random: &mut Random, tally: &mut Tally) -> Result<(), String> 
     refuses(random, Twin::new(record, lent), tally)
 }
 
-/// Demand 3: a log that packs, written on one engine, and its packed words, fed to an equal one, give equal ends.
+/// Demand 3: a log that packs, written on one engine, and its packed words, fed to equal ones word by word and in one
+/// call, give equal ends.
 pub fn demand_3_case(random: &mut Random, tally: &mut Tally) -> Result<(), String> {
     let log = random_log(random);
     let mut list = vec![0; 4 * MOST_WORDS];
@@ -218,7 +219,7 @@ pub fn demand_3_case(random: &mut Random, tally: &mut Tally) -> Result<(), Strin
     }
     let packed: Vec<u32> = words(&list[..4 * packed.length as usize]).collect();
     let mut writes = twin(random, false)?;
-    let mut fed = Twin::new(writes.record, writes.given.clone());
+    let (mut fed, mut whole) = (writes.equal(), writes.equal());
     for (side, calls) in [(&mut writes, write_calls(&log)), (&mut fed, word_calls(&packed))] {
         for call in calls {
             if side.call(call, tally)? != 0 {
@@ -231,8 +232,13 @@ pub fn demand_3_case(random: &mut Random, tally: &mut Tally) -> Result<(), Strin
             return Err(side.report("demand 3: a command is begun at the end"));
         }
     }
-    if writes.record.meaning() != fed.record.meaning() || writes.given != fed.given {
-        return Err(writes.report("demand 3: the packed words give another end than the port writes"));
+    if whole.piece(false, &packed, tally)?.number != 0 {
+        return Err(whole.report("demand 3: the packed list was refused"));
+    }
+    for end in [fed, whole] {
+        if !end.ends_as(&writes) {
+            return Err(end.report("demand 3: the packed words give another end than the port writes"));
+        }
     }
     Ok(())
 }

@@ -79,7 +79,7 @@ fn end(case: &[Command], tally: &mut Tally) -> Result<Core, String> {
     }
     let mut in_one_call = |of_log: bool, words: &[u32]| {
         let mut twin = fresh();
-        if twin.piece(of_log, words, tally)? != 0 {
+        if twin.piece(of_log, words, tally)?.number != 0 {
             return Err(twin.report("a fixed case is refused"));
         }
         twin.read(tally)?;

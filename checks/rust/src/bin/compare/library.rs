@@ -1,5 +1,5 @@
-//! The product's static libraries: its functions for C, and the feed of `probe`, which is for the checks alone; each
-//! behind a safe function.
+//! The product's static libraries: its functions for C, and the port writes of `probe`, which is for the checks alone;
+//! each behind a safe function.
 //!
 //! Safe, because a slice has as many bytes or numbers as its size says, none is null, and no two of them overlap.
 
@@ -65,12 +65,13 @@ pub struct FlagAnswer {
     pub flag: bool,
 }
 
-/// The answer of a feed: the words or port writes that were taken, and the number of the first refusal.
+/// The answer to a whole list or log: number and place of the refusal, and how many words or port writes were taken.
 #[repr(C)]
 #[derive(Clone, Copy, Debug, PartialEq, Eq)]
-pub struct FeedAnswer {
-    pub taken: usize,
+pub struct ListAnswer {
     pub number: u32,
+    pub place: usize,
+    pub taken: usize,
     pub engine: Record,
 }
 
@@ -104,6 +105,15 @@ extern "C" {
         polygons: *mut u32,
         polygon_numbers: usize,
     ) -> CallAnswer;
+    fn nauvelppi_words(
+        engine: Record,
+        words: *const u32,
+        count: usize,
+        vertices: *mut i32,
+        vertex_numbers: usize,
+        polygons: *mut u32,
+        polygon_numbers: usize,
+    ) -> ListAnswer;
     fn nauvelppi_status(engine: Record) -> StatusAnswer;
     fn nauvelppi_clip_matrix(engine: Record) -> MatrixAnswer;
     fn nauvelppi_vector_matrix(engine: Record) -> CornerAnswer;
@@ -114,16 +124,15 @@ extern "C" {
 
 #[link(name = "probe", kind = "static")]
 extern "C" {
-    fn probe_feed(
-        log: bool,
+    fn probe_feed_writes(
         engine: Record,
-        words: *const u32,
-        word_count: usize,
+        log: *const u32,
+        length: usize,
         vertices: *mut i32,
         vertex_numbers: usize,
         polygons: *mut u32,
         polygon_numbers: usize,
-    ) -> FeedAnswer;
+    ) -> ListAnswer;
 }
 
 pub fn pack(log: &[u8], output: &mut [u8]) -> Answer {
@@ -139,21 +148,38 @@ pub fn start(vertices: usize, polygons: usize) -> EngineAnswer {
 }
 
 pub fn word(engine: Record, word: u32, buffers: &mut Buffers) -> EngineAnswer {
-    let (vertices, vertex_numbers) = (buffers.vertices.as_mut_ptr(), buffers.vertices.len());
-    let (polygons, polygon_numbers) = (buffers.polygons.as_mut_ptr(), buffers.polygons.len());
+    let (vertices, vertex_numbers, polygons, polygon_numbers) = parts(buffers);
     unsafe { nauvelppi_word(engine, word, vertices, vertex_numbers, polygons, polygon_numbers) }
 }
 
 pub fn write(engine: Record, address: u32, value: u32, buffers: &mut Buffers) -> EngineAnswer {
-    let (vertices, vertex_numbers) = (buffers.vertices.as_mut_ptr(), buffers.vertices.len());
-    let (polygons, polygon_numbers) = (buffers.polygons.as_mut_ptr(), buffers.polygons.len());
+    let (vertices, vertex_numbers, polygons, polygon_numbers) = parts(buffers);
     unsafe { nauvelppi_port_write(engine, address, value, vertices, vertex_numbers, polygons, polygon_numbers) }
 }
 
 pub fn word_in_place(engine: &mut Record, word: u32, buffers: &mut Buffers) -> CallAnswer {
-    let (vertices, vertex_numbers) = (buffers.vertices.as_mut_ptr(), buffers.vertices.len());
-    let (polygons, polygon_numbers) = (buffers.polygons.as_mut_ptr(), buffers.polygons.len());
+    let (vertices, vertex_numbers, polygons, polygon_numbers) = parts(buffers);
     unsafe { nauvelppi_word_in_place(engine, word, vertices, vertex_numbers, polygons, polygon_numbers) }
+}
+
+/// Takes the words of a list until one is refused.
+pub fn words(engine: Record, list: &[u32], buffers: &mut Buffers) -> ListAnswer {
+    let (vertices, vertex_numbers, polygons, polygon_numbers) = parts(buffers);
+    let (words, count) = (list.as_ptr(), list.len());
+    unsafe { nauvelppi_words(engine, words, count, vertices, vertex_numbers, polygons, polygon_numbers) }
+}
+
+/// Makes the port writes of a log until one is refused; a last number without a partner is no write.
+pub fn writes(engine: Record, log: &[u32], buffers: &mut Buffers) -> ListAnswer {
+    let (vertices, vertex_numbers, polygons, polygon_numbers) = parts(buffers);
+    let (log, length) = (log.as_ptr(), log.len());
+    unsafe { probe_feed_writes(engine, log, length, vertices, vertex_numbers, polygons, polygon_numbers) }
+}
+
+/// Both buffers as C is given them: where they begin, and how many numbers they have.
+fn parts(buffers: &mut Buffers) -> (*mut i32, usize, *mut u32, usize) {
+    let (vertices, polygons) = (&mut buffers.vertices, &mut buffers.polygons);
+    (vertices.as_mut_ptr(), vertices.len(), polygons.as_mut_ptr(), polygons.len())
 }
 
 pub fn status(engine: Record) -> StatusAnswer {
@@ -178,12 +204,4 @@ pub fn clear_error(engine: Record) -> EngineAnswer {
 
 pub fn clear_overflow(engine: Record) -> EngineAnswer {
     unsafe { nauvelppi_clear_overflow(engine) }
-}
-
-/// Feeds words, or with `log` the port writes of a log, until one is refused.
-pub fn feed(log: bool, engine: Record, words: &[u32], buffers: &mut Buffers) -> FeedAnswer {
-    let (words, word_count) = (words.as_ptr(), words.len());
-    let (vertices, vertex_numbers) = (buffers.vertices.as_mut_ptr(), buffers.vertices.len());
-    let (polygons, polygon_numbers) = (buffers.polygons.as_mut_ptr(), buffers.polygons.len());
-    unsafe { probe_feed(log, engine, words, word_count, vertices, vertex_numbers, polygons, polygon_numbers) }
 }

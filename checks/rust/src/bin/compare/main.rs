@@ -13,6 +13,7 @@ mod records;
 mod replay;
 mod tally;
 mod twin;
+mod whole;
 
 use std::panic::{catch_unwind, AssertUnwindSafe};
 use std::process::ExitCode;
@@ -27,21 +28,22 @@ type Case = fn(&mut Random, &mut Tally) -> Result<(), String>;
 
 /// The kinds of cases, and how many of a thousand are of each.
 const KINDS: &[(&str, usize, Case)] = &[
-    ("pack", 180, lists::pack_case),
-    ("unpack", 180, lists::unpack_case),
+    ("pack", 160, lists::pack_case),
+    ("unpack", 160, lists::unpack_case),
     ("long", 6, lists::long_case),
-    ("round trip", 50, lists::round_trip_case),
+    ("round trip", 44, lists::round_trip_case),
     ("program", 3, programs::program_case),
     ("replay", 3, replay::replay_case),
     ("start", 20, engines::start_case),
-    ("words", 150, engines::words_case),
-    ("writes", 100, engines::writes_case),
-    ("mixture", 80, engines::mixture_case),
-    ("pieces", 70, engines::pieces_case),
+    ("words", 140, engines::words_case),
+    ("writes", 94, engines::writes_case),
+    ("mixture", 70, engines::mixture_case),
+    ("pieces", 60, engines::pieces_case),
+    ("whole lists", 50, whole::whole_case),
     ("clears", 40, engines::clears_case),
-    ("unsound", 80, engines::unsound_case),
+    ("unsound", 75, engines::unsound_case),
     ("short buffers", 30, engines::short_case),
-    ("demand 3", 50, engines::demand_3_case),
+    ("demand 3", 45, engines::demand_3_case),
 ];
 
 fn main() -> ExitCode {

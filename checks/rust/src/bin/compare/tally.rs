@@ -11,13 +11,19 @@ const NEVER: usize = 9;
 /// The numbers that have to be seen.
 const DEMANDED: [usize; 10] = [1, 2, 3, 4, 5, 6, 7, 8, 10, 11];
 
+/// The numbers that have to be seen of these calls.
+const DEMANDED_OF: [(Call, &[usize]); 2] = [(Call::List, &[0, 1, 2, 3, 4]), (Call::Whole, &[0, 3, 4])];
+
+/// `List` and `Log` are one call each, also with a piece of one; `Whole` is a list that was fed in three ways.
 #[derive(Clone, Copy, Debug)]
 pub enum Call {
     Start,
     Word,
     InPlace,
     Write,
-    Feed,
+    List,
+    Log,
+    Whole,
     Read,
     Clear,
     Pack,
@@ -25,8 +31,8 @@ pub enum Call {
     Program,
 }
 
-const NAMES: [&str; 10] =
-    ["start", "word", "in place", "port write", "feed", "read", "clear", "pack", "unpack", "program"];
+const NAMES: [&str; 12] =
+    ["start", "word", "in place", "port write", "list", "log", "whole", "read", "clear", "pack", "unpack", "program"];
 
 /// Number 0 stands for an accepted call.
 #[derive(Default)]
@@ -47,6 +53,12 @@ impl Tally {
     pub fn check(&self) -> Result<(), String> {
         if let Some(number) = DEMANDED.iter().find(|&&number| self.total(number) == 0) {
             return Err(format!("number {number} was never seen"));
+        }
+        for (call, numbers) in DEMANDED_OF {
+            let (name, seen) = (NAMES[call as usize], &self.seen[call as usize]);
+            if let Some(number) = numbers.iter().find(|&&number| seen[number] == 0) {
+                return Err(format!("{name}: number {number} was never seen"));
+            }
         }
         if self.total(NEVER) > 0 {
             return Err(format!("number {NEVER} was seen, which can never fall"));

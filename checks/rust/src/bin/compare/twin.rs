@@ -6,6 +6,7 @@ use reference::engine::Engine;
 use reference::geometry::Buffers;
 use reference::record::{Counts, Record};
 use reference::refusal::Refusal;
+use reference::words::to_bytes;
 
 use crate::library::{self, CornerAnswer, EngineAnswer, FlagAnswer, MatrixAnswer, StatusAnswer};
 use crate::random::Random;
@@ -43,6 +44,14 @@ pub fn partly_in_place(random: &mut Random, calls: Vec<Call>) -> Vec<Call> {
         _ => call,
     };
     calls.into_iter().map(in_place).collect()
+}
+
+/// What a list or a log in one call answers, but for the engine.
+#[derive(Clone, Copy, Debug, PartialEq, Eq)]
+pub struct Fed {
+    pub number: u32,
+    pub place: usize,
+    pub taken: usize,
 }
 
 /// What was done with a twin: a call, a piece of a list, with `true` of a log, in one call, or a clear.
@@ -87,7 +96,7 @@ impl Lent {
 pub struct Twin {
     pub record: Record,
     engine: Result<Engine, Refusal>,
-    pub given: Lent,
+    given: Lent,
     expected: Lent,
     /// What a difference prints: the record at the start and what was done so far.
     start: Record,
@@ -98,6 +107,16 @@ impl Twin {
     pub fn new(record: Record, lent: Lent) -> Self {
         let engine = record.engine();
         Twin { record, engine, given: lent.clone(), expected: lent, start: record, deeds: Vec::new() }
+    }
+
+    /// Another twin with an equal record and equal buffers.
+    pub fn equal(&self) -> Self {
+        Twin::new(self.record, self.given.clone())
+    }
+
+    /// Whether the library has the same end here: what the record means, and both buffers.
+    pub fn ends_as(&self, other: &Twin) -> bool {
+        self.record.meaning() == other.record.meaning() && self.given == other.given
     }
 
     /// Makes one call on both sides and compares the answers; the number that both answered.
@@ -210,40 +229,44 @@ impl Twin {
         Ok(())
     }
 
-    /// Feeds a piece of a list, or of a log, in one call of the library and item by item to the reference, and compares
-    /// the answers and both buffers; the number that both answered.
-    pub fn piece(&mut self, log: bool, words: &[u32], tally: &mut Tally) -> Result<u32, String> {
+    /// Gives both sides a list or a log, or a piece of one, in one call, and compares the answers and both buffers; what
+    /// both answered.
+    pub fn piece(&mut self, log: bool, words: &[u32], tally: &mut Tally) -> Result<Fed, String> {
         self.deeds.push(Deed::Piece(log, words.to_vec()));
-        let (number, taken) = self.feed_reference(&if log { write_calls(words) } else { word_calls(words) });
-        let answer = library::feed(log, self.record, words, &mut self.given.buffers());
-        if (answer.number, answer.taken) != (number, taken) {
-            let (other, others) = (answer.number, answer.taken);
-            return Err(self.report(&format!("reference {number}, {taken} taken, library {other}, {others} taken")));
+        let expected = self.feed_reference(log, words);
+        let mut buffers = self.given.buffers();
+        let (kind, answer) = if log {
+            (tally::Call::Log, library::writes(self.record, words, &mut buffers))
+        } else {
+            (tally::Call::List, library::words(self.record, words, &mut buffers))
+        };
+        let fed = Fed { number: answer.number, place: answer.place, taken: answer.taken };
+        if fed != expected {
+            return Err(self.report(&format!("reference {expected:?}, library {fed:?}")));
         }
-        if taken == 0 {
-            self.compare_kept(&answer.engine)?;
+        if fed.number != 0 && fed.taken == 0 {
+            self.compare_cells(&answer.engine)?;
         } else {
             self.compare_meaning(&answer.engine)?;
         }
         self.compare_buffers()?;
         self.record = answer.engine;
-        tally.count(tally::Call::Feed, number);
-        Ok(number)
+        tally.count(kind, fed.number);
+        Ok(fed)
     }
 
-    /// The number of the first call that the reference refuses, and how many it took before. Without a call nothing is
-    /// tested.
-    fn feed_reference(&mut self, calls: &[Call]) -> (u32, usize) {
-        for (taken, &call) in calls.iter().enumerate() {
-            let number = self.reference(call);
-            if number != 0 {
-                return (number, taken);
-            }
-        }
-        (0, calls.len())
+    fn feed_reference(&mut self, log: bool, words: &[u32]) -> Fed {
+        let (bytes, mut buffers) = (to_bytes(words), self.expected.buffers());
+        let (taken, refused) = match &mut self.engine {
+            Ok(engine) if log => engine.feed_writes(&bytes, &mut buffers),
+            Ok(engine) => engine.feed_words(&bytes, &mut buffers),
+            Err(refusal) => (0, Some((*refusal).into())),
+        };
+        let (number, place) = refused.map_or((0, 0), |refused| (refused.refusal.number(), refused.place));
+        Fed { number, place, taken }
     }
 
-    /// An accepted call: the record means what the engine is.
+    /// A call that was accepted, or took words or port writes: the record means what the engine is.
     fn compare_meaning(&self, record: &Record) -> Result<(), String> {
         let engine = self.engine.as_ref().map_err(|_| self.report("an unsound record was accepted"))?;
         let (expected, given) = (Record::from(engine).meaning(), record.meaning());
@@ -253,21 +276,13 @@ impl Twin {
         Ok(())
     }
 
-    /// A refused call: the very record, every cell, and both buffers.
+    /// A refused call: the very record, and both buffers.
     fn compare_refused(&self, record: &Record) -> Result<(), String> {
         self.compare_cells(record)?;
         self.compare_buffers()
     }
 
-    /// A piece of which nothing was taken: every cell but the free ones of the stream.
-    fn compare_kept(&self, record: &Record) -> Result<(), String> {
-        let mut given = *record;
-        if given.meaning().stream == self.record.meaning().stream {
-            given.stream = self.record.stream;
-        }
-        self.compare_cells(&given)
-    }
-
+    /// A refused call that took nothing: the very record, every cell.
     fn compare_cells(&self, record: &Record) -> Result<(), String> {
         if *record != self.record {
             let lines = different_lines(&self.record, record);
