@@ -13,7 +13,7 @@ use Rattle.stream.specs.Feed.{fed, feed, listBy}
 use Rattle.stream.proofs.FeedLaws.{list-usable}
 use Rattle.state.specs.declared.Core.{Core}
 use Rattle.state.specs.declared.Engine.{Engine}
-use Rattle.state.specs.Sound.{soundCore, pendingOf, soundStream, sound}
+use Rattle.state.specs.Sound.{soundCore, soundStream, sound}
 use Rattle.state.proofs.SoundLaws.{sound-parts, parts-core}
 use Rattle.state.proofs.GeometryLaws.{geometry-ranges, room-limits}
 use Rattle.state.specs.Sizes.{mostVertices, mostPolygons}

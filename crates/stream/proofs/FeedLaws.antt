@@ -3,29 +3,17 @@
 use mathlib.Core.Bool.{Bool, true, false, cond, _&&_}
 use mathlib.Core.List.{List, [], _∷_, _++_}
 use mathlib.Core.Path.{_≡_, refl, sym, ap, subst, _∙_}
-use Prim.Native.Nat.{ℕ, suc, _+_, _*_, _/_, _≤_, _<_}
+use Prim.Native.Nat.{ℕ, suc, _+_, _≤_}
 use native.Mathlib.Omega.{arith}
-use lib.ListN.{length, getD, drop, length-drop, drop-of-length-le}
+use lib.ListN.{length, drop, length-drop, drop-of-length-le}
 use lib.Dec.{eqb}
 use borrow.Author.Tests.{eqb-true, eqb-false, eq-eqb, ne-eqb}
-use Rattle.words.proofs.Over.{drop-next}
-use Rattle.stream.specs.Command.{Write, write}
-use Rattle.stream.specs.Read.{writes}
 use Rattle.stream.specs.Pending.{Pending, soundPending}
 use Rattle.stream.specs.Step.{Step}
 use Rattle.stream.specs.Call.{Rules, Machine, Reply, reply, afterStep, callBy}
-use Rattle.stream.proofs.UnpackLaws.{length-writes}
-use Rattle.stream.proofs.WriteLaws.{writes-at}
 use Rattle.stream.specs.Feed.{Fed, fed, oneMoreTaken, after, AllTaken, feed, Singly, listBy}
 use Rattle.stream.specs.Demand3.{Usable}
-use Rattle.stream.proofs.CallLaws.{Keeping}
-
-pub next-write : (log : List ℕ) (i : ℕ) → i < length log / 2
-    → drop i (writes log) ≡ write (getD log (2 * i) 0) (getD log (2 * i + 1) 0) ∷ drop (i + 1) (writes log)
-next-write log i h =
-    let inside : i < length (writes log) = rw (length-writes log) h in
-    drop-next (writes log) i (write 0 0) inside
-    ∙ ap (λ (w : Write). w ∷ drop (i + 1) (writes log)) (writes-at log i (omega arith))
+use Rattle.stream.proofs.CallLaws.{Keeping, refused-same}
 
 one-inside : {A : Type 0} (l : List A) (i : ℕ) {a : A} {k : List A} → drop i l ≡ a ∷ k → i + 1 ≤ length l
 one-inside l i {a} {k} e = omega (arith, ap length e, length-drop i l)
@@ -45,7 +33,7 @@ module _ {State A : Type 0} (call : Machine State → A → Reply State) where
   feed-all m [] h = refl
   feed-all m (a ∷ l) h = fed-taken m a l (h .0) ∙ ap oneMoreTaken (feed-all (call m a .left) l (h .1))
 
-  -- in its own words; a refused call changes nothing
+  -- T-01 in its own words, where a refused call changes nothing
   module _ (same : (m : Machine State) (a : A) → (call m a .number ≡ 0 → ⊥) → call m a .left ≡ m) where
     pub fed-singly : (m : Machine State) (l : List A) → Singly call m l (feed call m l)
     fed-singly m [] = record {
@@ -197,6 +185,10 @@ module _ {State : Type 0} (rules : Rules State) {A : Type 0} (step : Pending →
       by true true = refl
       by true false = refl
       by false u = refl
+
+  -- so it is what calls one by one give
+  pub list-singly : (a : A) (l : List A) → Singly (callBy rules step) m (a ∷ l) (listBy rules step m (a ∷ l))
+  list-singly a l = rw (list-some a l) (fed-singly (callBy rules step) (refused-same rules step) m (a ∷ l))
 
   -- where every call of its own would answer number 0
   pub list-all : (l : List A) → Keeping (Usable rules) m → AllTaken (callBy rules step) m l
