@@ -5,11 +5,11 @@ use mathlib.Core.Path.{_≡_, refl, sym, subst}
 use Prim.Native.Nat.{ℕ}
 use lib.IntN.{ℤ}
 use lib.ListN.{length}
-use Rattle.stream.specs.Pending.{soundPending}
+use Rattle.stream.specs.Pending.{Pending, soundPending}
 use Rattle.stream.specs.Command.{Command, Complete, Write}
-use Rattle.stream.specs.Step.{wordStep, portStep}
-use Rattle.stream.specs.Call.{Machine}
-use Rattle.stream.specs.Feed.{Fed}
+use Rattle.stream.specs.Step.{Step, wordStep, portStep}
+use Rattle.stream.specs.Call.{Machine, callBy}
+use Rattle.stream.specs.Feed.{Fed, listBy}
 use Rattle.stream.proofs.StepLaws.{word-keeps, port-keeps}
 use Rattle.stream.proofs.CallLaws.{Keeping, call-keeps}
 use Rattle.stream.proofs.FeedLaws.{list-keeps}
@@ -20,8 +20,7 @@ use Rattle.state.specs.Sound.{soundCore, pendingOf, soundStream, sound}
 use Rattle.state.proofs.SoundLaws.{sound-parts}
 use Rattle.polygons.specs.Buffers.{Buffered, buffered}
 use Rattle.execute.proofs.Keeps.{CoreKept, core-kept-more, execute-kept}
-use Rattle.execute.specs.Call.{exec, engineRules, machineOf, wordReply, portReply}
-use Rattle.execute.specs.Call.{fedOf, wordsReply, writesReply}
+use Rattle.execute.specs.Call.{exec, engineRules, machineOf, wordReply, portReply, fedOf}
 use Rattle.execute.proofs.Calls.{sound-core}
 
 -- an engine and its buffers after a call
@@ -68,26 +67,16 @@ module _ (e : Engine) (vertices : List ℤ) (polygons : List ℕ) where
 
 -- ---- many items in one call
 
-module _ (e : Engine) (vertices : List ℤ) (polygons : List ℕ) (h : sound e ≡ true) (r : ListAnswer) (vs : List ℤ)
-    (ps : List ℕ) where
-  kept-from : {x : Fed (Buffered Core)} → Kept e vertices polygons (x .left) → fedOf r vs ps ≡ x
-      → EngineKept e vertices polygons (r .engine) vs ps
-  kept-from k told =
-      engine-kept e vertices polygons (r .engine) vs ps
-      (subst (λ (y : Fed (Buffered Core)). Kept e vertices polygons (y .left)) (sym told) k)
-
-  -- an answer that meets the contract of `feed_words`
-  pub words-kept : (ws : List ℕ) → fedOf r vs ps ≡ wordsReply (machineOf e vertices polygons) ws
-      → EngineKept e vertices polygons (r .engine) vs ps
-  words-kept ws =
-      kept-from
-      (list-keeps engineRules wordStep (machineOf e vertices polygons) (Kept e vertices polygons)
-      (kept-by-word e vertices polygons) ws (kept-at-first e vertices polygons h))
-
-  -- and of `feed_writes`
-  pub writes-kept : (ws : List Write) → fedOf r vs ps ≡ writesReply (machineOf e vertices polygons) ws
-      → EngineKept e vertices polygons (r .engine) vs ps
-  writes-kept ws =
-      kept-from
-      (list-keeps engineRules portStep (machineOf e vertices polygons) (Kept e vertices polygons)
-      (kept-by-port e vertices polygons) ws (kept-at-first e vertices polygons h))
+-- an answer that meets the contract of such a call
+pub list-kept : (e : Engine) (vertices : List ℤ) (polygons : List ℕ) → sound e ≡ true
+    → {A : Type 0} (step : Pending → A → Step)
+    → ((m : Machine (Buffered Core)) (a : A) → Kept e vertices polygons m
+    → Kept e vertices polygons (callBy engineRules step m a .left))
+    → (items : List A) (r : ListAnswer) (vs : List ℤ) (ps : List ℕ)
+    → fedOf r vs ps ≡ listBy engineRules step (machineOf e vertices polygons) items
+    → EngineKept e vertices polygons (r .engine) vs ps
+list-kept e vertices polygons h step keeps items r vs ps told =
+    engine-kept e vertices polygons (r .engine) vs ps
+    (subst (λ (f : Fed (Buffered Core)). Kept e vertices polygons (f .left)) (sym told)
+    (list-keeps engineRules step (machineOf e vertices polygons) (Kept e vertices polygons) keeps items
+    (kept-at-first e vertices polygons h)))

@@ -27,7 +27,7 @@ use Rattle.state.proofs.SoundLaws.{sound-parts}
 use Rattle.state.proofs.GeometryLaws.{geometry-ranges, room-limits}
 use Rattle.polygons.specs.Buffers.{Buffered, buffered, longEnough}
 use Rattle.execute.specs.Call.{engineRules, machineOf, fedOf, feedAs}
-use Rattle.execute.proofs.CallKeeps.{EngineKept, words-kept, writes-kept}
+use Rattle.execute.proofs.CallKeeps.{EngineKept, kept-by-word, kept-by-port, list-kept}
 use Rattle.listing.specs.Text.{refusedLine}
 use Rattle.listing.specs.Buffer.{Puts}
 use Rattle.listing.proofs.PutLaws.{reported}
@@ -62,14 +62,16 @@ pub run-kept : (log : Bool) (e : Engine) (vertices : List ℤ) (polygons : List 
     → RunKept e vertices polygons r vs ps (length ws)
 unfolding feedAs
 run-kept true e vertices polygons h ws r vs ps told =
-    run-kept-by e vertices polygons r vs ps (length ws) (writes-kept e vertices polygons h r vs ps (writes ws) told)
+    run-kept-by e vertices polygons r vs ps (length ws)
+    (list-kept e vertices polygons h portStep (kept-by-port e vertices polygons) (writes ws) r vs ps told)
     (omega (
       arith,
       ap (λ (f : Fed (Buffered Core)). f .taken) told,
       run-taken true (machineOf e vertices polygons) ws,
     ))
 run-kept false e vertices polygons h ws r vs ps told =
-    run-kept-by e vertices polygons r vs ps (length ws) (words-kept e vertices polygons h r vs ps ws told)
+    run-kept-by e vertices polygons r vs ps (length ws)
+    (list-kept e vertices polygons h wordStep (kept-by-word e vertices polygons) ws r vs ps told)
     (omega (
       arith,
       ap (λ (f : Fed (Buffered Core)). f .taken) told,
