@@ -190,6 +190,17 @@ module _ {State : Type 0} (rules : Rules State) {A : Type 0} (step : Pending →
   pub list-singly : (a : A) (l : List A) → Singly (callBy rules step) m (a ∷ l) (listBy rules step m (a ∷ l))
   list-singly a l = rw (list-some a l) (fed-singly (callBy rules step) (refused-same rules step) m (a ∷ l))
 
+  -- an accepted list is taken whole
+  pub list-taken : (l : List A) → listBy rules step m l .number ≡ 0 → listBy rules step m l .taken ≡ length l
+  unfolding listBy
+  list-taken [] z = by (rules .sound (m .state) && soundPending (m .pending)) (rules .longEnough (m .state))
+    where
+      by : (t u : Bool) → cond t (cond u (fed 0 0 m) (fed 0 2 m)) (fed 0 1 m) .taken ≡ 0
+      by true true = refl
+      by true false = refl
+      by false u = refl
+  list-taken (a ∷ l) z = list-singly a l .none-refused z
+
   -- where every call of its own would answer number 0
   pub list-all : (l : List A) → Keeping (Usable rules) m → AllTaken (callBy rules step) m l
       → listBy rules step m l ≡ fed (length l) 0 (after (callBy rules step) m l)

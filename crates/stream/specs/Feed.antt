@@ -71,10 +71,10 @@ module _ {State : Type 0} (rules : Rules State) where
   unfoldable pub listBy : {A : Type 0} → (Pending → A → Step) → Machine State → List A → Fed State
   listBy step m l = onUsable rules m (λ (n : ℕ). fed 0 n m) (feed (callBy rules step) m l)
 
-  -- T-01: "Take a slice of words in one call."
+  -- T-01: "Take a slice of words in one call.", of any length (reading 33)
   abbrev pub wordsCall : Machine State → List ℕ → Fed State
   wordsCall = listBy wordStep
 
-  -- and port writes: the other side of demand 3
+  -- and port writes: the other side of demand 3 (reading 35)
   abbrev pub writesCall : Machine State → List Write → Fed State
   writesCall = listBy portStep
