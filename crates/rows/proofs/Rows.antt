@@ -11,6 +11,7 @@ use Rattle.stream.specs.Read.{logCommands, listCommands}
 use Rattle.stream.specs.Pack.{groupWords, packedWords, packCommands, pack}
 use Rattle.stream.specs.Unpack.{commandWrites, commandsLog, unpackFrom}
 use Rattle.stream.specs.Call.{callBy}
+use Rattle.stream.specs.Feed.{placeOf, listBy}
 use Rattle.state.specs.List.{listOf}
 use Rattle.state.specs.With.{withRooms}
 use Rattle.state.specs.Fresh.{freshTransform, freshGeometry, fresh, start}
@@ -28,7 +29,7 @@ use Rattle.geometry.specs.Command.{runGeometry}
 use Rattle.execute.specs.Operation.{registerCommandOf, operationOf}
 use Rattle.execute.specs.Execute.{runRegisters, runOperation, execute}
 use Rattle.rows.specs.Rows.{GroupHolds, AllHold, commandTableRows, wordRows, matrixRows, stackRows, geometryRows}
-use Rattle.rows.specs.Rows.{packRows, workedRows, popReadings, readerReadings, readings}
+use Rattle.rows.specs.Rows.{packRows, workedRows, popReadings, readerReadings, listReadings, readings}
 
 command-table : GroupHolds commandTableRows
 unfolding lookup
@@ -72,5 +73,11 @@ unfolding lookup known count port counted commandBytes hole commandsOf takesNone
     listCommands commandWrites commandsLog unpackFrom
 readers = (refl, (refl, (refl, (refl, tt))))
 
+lists : GroupHolds listReadings
+unfolding listOf lookup known count counted commandBytes hole commandsOf soundPending takesNone commandWord wordStep
+    callBy listBy placeOf freshTransform freshGeometry fresh withRooms start soundTransform soundWaiting soundGeometry
+    soundCore longEnough
+lists = (refl, (refl, (refl, (refl, (refl, (refl, (refl, (refl, (refl, tt)))))))))
+
 pub all-readings : AllHold readings
-all-readings = (pops, (readers, tt))
+all-readings = (pops, (readers, (lists, tt)))

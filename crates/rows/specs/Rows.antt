@@ -1,6 +1,6 @@
 -- Document 01, "Rows to check", those marked P: what the definitions give, beside what the row says. One claim covers
 -- the table (proofs/Rows.antt), and each of its rows holds by computing the definitions. A second list, with a claim of
--- its own, shows readings of document 01 (docs/DECISIONS.md).
+-- its own, shows readings of documents 01 and 02 (docs/DECISIONS.md).
 use mathlib.Core.Bool.{true, false}
 use mathlib.Core.List.{List, [], _∷_, map}
 use mathlib.Core.Path.{_≡_}
@@ -10,13 +10,14 @@ use lib.ListN.{replicate}
 use Rattle.commands.specs.declared.Count.the-variants.{Takes, Unknown}
 use Rattle.commands.specs.Commands.{lookup}
 use Rattle.matrix.specs.Matrix.{unit, at}
-use Rattle.stream.specs.Pending.{idle, queued}
+use Rattle.stream.specs.Pending.{Pending, idle, queued, portPending}
 use Rattle.stream.specs.Command.{command}
 use Rattle.stream.specs.Input.{mostWords}
 use Rattle.stream.specs.Output.{refusal, acceptance}
 use Rattle.stream.specs.Pack.{pack}
 use Rattle.stream.specs.Unpack.{unpackFrom}
 use Rattle.stream.specs.Call.{Machine, machine, reply, run}
+use Rattle.stream.specs.Feed.{fed, placeOf}
 use Rattle.state.specs.declared.Geometry.{Geometry}
 use Rattle.state.specs.declared.Core.{Core}
 use Rattle.state.specs.With.{withPair}
@@ -30,7 +31,7 @@ use Rattle.stacks.specs.Stack.{level, target, runStack}
 use Rattle.transforms.specs.declared.MatrixCommand.the-variants.{Mode}
 use Rattle.transforms.specs.Command.{runMatrix}
 use Rattle.polygons.specs.Buffers.{Buffered, buffered, polygonWidth}
-use Rattle.execute.specs.Call.{exec, wordReply}
+use Rattle.execute.specs.Call.{exec, wordReply, wordsReply}
 
 pub record WorkedRow : Type 1 where
   pub Kind : Type 0
@@ -78,6 +79,18 @@ startWith vertices polygons =
 -- rooms 1 and 1, nothing pending
 abbrev atStart : Machine (Buffered Core)
 atStart = machine (startWith 1 1) idle
+
+-- the same with a port command begun
+abbrev atPort : Machine (Buffered Core)
+atPort = machine (startWith 1 1) (portPending 0x23 (7 ∷ []))
+
+-- a lent list of vertices that is one number short
+abbrev tooShort : Buffered Core
+tooShort = buffered (startWith 1 1 .part) (replicate 4 (negsuc 0)) (startWith 1 1 .polygons)
+
+-- parameters held without a command
+abbrev notSound : Pending
+notSound = queued [] (7 ∷ [])
 
 -- commands one after another, each a byte and its parameters
 abbrev runs : List (ℕ × List ℕ) → Buffered Core → Buffered Core
@@ -189,5 +202,21 @@ readerReadings =
     ∷ gives (unpackFrom 4 0 (0x0011_0015 ∷ 0x10 ∷ 2 ∷ [])) (acceptance [])
     ∷ []
 
+abbrev pub listReadings : List WorkedRow
+listReadings =
+    -- reading 34: `0, 00110015h` is number 3, taken 1, and place 1; the words behind a refused one are not taken
+    gives (wordsReply atStart (0 ∷ 0x0011_0015 ∷ [])) (fed 1 3 atStart)
+    ∷ gives (wordsReply atStart (0 ∷ 0x0011_0015 ∷ 0 ∷ [])) (fed 1 3 atStart)
+    ∷ gives (placeOf 3 1) 1
+    ∷ gives (wordsReply atStart (0 ∷ 0x10 ∷ [])) (fed 2 0 (machine (startWith 1 1) (queued (0x10 ∷ []) [])))
+    ∷ gives (placeOf 0 2) 0
+    -- reading 35: an empty list is taken with a command begun, where a word of 0 is refused with 4
+    ∷ gives (wordsReply atPort []) (fed 0 0 atPort)
+    ∷ gives (wordsReply atPort (0 ∷ [])) (fed 0 4 atPort)
+    -- and refused with 2 and 1; 1 first
+    ∷ gives (wordsReply (machine tooShort idle) []) (fed 0 2 (machine tooShort idle))
+    ∷ gives (wordsReply (machine tooShort notSound) []) (fed 0 1 (machine tooShort notSound))
+    ∷ []
+
 abbrev pub readings : List (List WorkedRow)
-readings = popReadings ∷ readerReadings ∷ []
+readings = popReadings ∷ readerReadings ∷ listReadings ∷ []
