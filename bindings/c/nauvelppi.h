@@ -71,7 +71,8 @@ nauvelppi_answer nauvelppi_unpack(const uint8_t *list, size_t list_size, uint8_t
 
 /* Position and vector: the current matrices, and the level that their two stacks share. A matrix is sixteen numbers,
  * row by row, 12 fraction bits: 4096 is 1.0.
- * level: 0 to 31. */
+ * level: 0 to 63; its slot is level % 32. A push stores there and then adds 1; a pop subtracts its number and then
+ *   loads from there; both count modulo 64. */
 typedef struct nauvelppi_pair {
     int32_t position[16];
     int32_t vector[16];
@@ -79,7 +80,7 @@ typedef struct nauvelppi_pair {
 } nauvelppi_pair;
 
 /* Projection or texture: the current matrix, and its stack of one slot.
- * level: 0 or 1. */
+ * level: 0 or 1. A push or a pop flips it. */
 typedef struct nauvelppi_single {
     int32_t matrix[16];
     int32_t slot[16];
@@ -87,7 +88,9 @@ typedef struct nauvelppi_single {
 } nauvelppi_single;
 
 /* mode: what 10h set, 0 to 3: projection, position, position and vector, texture.
- * error: the error flag of the stacks, 0 or 1. */
+ * error: the error flag of the stacks, 0 or 1. Set in modes 1 and 2 by a push at level 31 or more, a pop to such a
+ *   level, a store or restore with 31; in modes 0 and 3 by a push at 1 or a pop at 0. What sets it is done all the
+ *   same. */
 typedef struct nauvelppi_transform {
     nauvelppi_pair pair;
     nauvelppi_single projection;
@@ -150,10 +153,10 @@ typedef struct nauvelppi_registers {
     nauvelppi_geometry geometry;
 } nauvelppi_registers;
 
-/* The stacks of position and vector, 31 slots each: slot k is the sixteen numbers from 16 * k on. */
+/* The stacks of position and vector, 32 slots each: slot k is the sixteen numbers from 16 * k on. */
 typedef struct nauvelppi_stacks {
-    int32_t positions[496];
-    int32_t vectors[496];
+    int32_t positions[512];
+    int32_t vectors[512];
 } nauvelppi_stacks;
 
 typedef struct nauvelppi_core {
@@ -275,8 +278,8 @@ typedef struct nauvelppi_status_answer {
     uint32_t status;
 } nauvelppi_status_answer;
 
-/* The status word (GXSTAT): bits 8-12 the level of position and vector, bit 13 the projection level, bit 15 the error
- * flag, all other bits 0. */
+/* The status word (GXSTAT): bits 8-12 the low five bits of the level of position and vector, bit 13 the projection
+ * level, bit 15 the error flag, all other bits 0. */
 nauvelppi_status_answer nauvelppi_status(nauvelppi_engine engine);
 
 /* matrix: sixteen zeros on a refusal. */

@@ -1,7 +1,7 @@
-/* Calls the engine of bindings/c/nauvelppi.h: a list word by word, the same commands as port writes, and the refusals
- * of a sound engine. Every word is given both by value and in place. What must come out is worked out by hand from the
- * rules and stands here and in sample.h as numbers. Prints how many checks passed; a check that fails is a non-zero
- * exit. */
+/* Calls the engine of bindings/c/nauvelppi.h: a list word by word, the same commands as port writes, the stacks at
+ * their ends, and the refusals of a sound engine. Every word is given both by value and in place. What must come out is
+ * worked out by hand from the rules and stands here and in sample.h as numbers. Prints how many checks passed; a check
+ * that fails is a non-zero exit. */
 #define PROGRAM "engine"
 #include "sample.h"
 
@@ -87,6 +87,12 @@ static void take(const char *name, nauvelppi_engine *e, uint32_t word)
     check(r.number == 0 && r.place == 0, name, "a word is refused");
 }
 
+static void take_all(const char *name, nauvelppi_engine *e, const uint32_t *words, size_t count)
+{
+    for (size_t i = 0; i < count; i++)
+        take(name, e, words[i]);
+}
+
 static void on_the_way(const nauvelppi_engine *e, size_t taken)
 {
     const nauvelppi_transform *t = &e->core.registers.transform;
@@ -122,16 +128,24 @@ static void on_the_way(const nauvelppi_engine *e, size_t taken)
     }
 }
 
-/* A polygon more than there is room for, and a pop from the empty stack: two flags, and nothing else but the list. */
+/* What a pop of 1 at level 0 does where slot 31 was not used: zeros are loaded from it. */
+static void popped_once(nauvelppi_transform *t)
+{
+    memset(t->pair.position, 0, sizeof t->pair.position);
+    memset(t->pair.vector, 0, sizeof t->pair.vector);
+    t->pair.level = 63;
+    t->error = true;
+}
+
+/* A polygon more than there is room for, and a pop at level 0: two flags, the list, and what the pop does. */
 static void flags(nauvelppi_engine *e)
 {
     static const uint32_t more[] = {0x25252540, 0, 0, 0, 0, 0x00000012, 1};
     nauvelppi_engine expected = *e;
-    for (size_t i = 0; i < COUNT(more); i++)
-        take("list, one polygon more", e, more[i]);
+    take_all("list, one polygon more", e, more, COUNT(more));
     expected.core.registers.geometry.waiting.list = 1;
     expected.core.registers.geometry.overflow = true;
-    expected.core.registers.transform.error = true;
+    popped_once(&expected.core.registers.transform);
     check(same_core(e, &expected), "list, one polygon more", "another engine");
     buffers_hold("list, one polygon more", VERTICES, POLYGONS);
 }
@@ -153,6 +167,179 @@ static void list_checks(void)
     ended("list", &by_words);
     check(same_core(&by_words, &by_writes), "list", "another engine than by port writes");
     flags(&by_words);
+}
+
+/* ---- Stacks */
+
+/* A stack command with its parameter, or a dummy, at a level: the slot that it stores in or loads, the level after it,
+ * and whether it is an error. */
+typedef struct move {
+    const char *name;
+    uint32_t command, parameter;
+    size_t level, slot, after;
+    bool error;
+} move;
+
+enum { PUSH = 0x11, POP = 0x12, STORE = 0x13, RESTORE = 0x14 };
+
+/* In modes 1 and 2. The number of a pop is bits 0-5, the slot of store and restore bits 0-4. */
+static const move pair_moves[] = {
+    {"push at 0", PUSH, 0, 0, 0, 1, false},
+    {"push at 30", PUSH, 0, 30, 30, 31, false},
+    /* document 01, row 4, as document 02 has it: "row 4 gives level 32" */
+    {"push at 31", PUSH, 0, 31, 31, 32, true},
+    {"push at 32", PUSH, 0, 32, 0, 33, true},
+    {"push at 62", PUSH, 0, 62, 30, 63, true},
+    {"push at 63", PUSH, 0, 63, 31, 0, true},
+    {"pop 1 at 0", POP, 1, 0, 31, 63, true},
+    {"pop 1 at 1", POP, 1, 1, 0, 0, false},
+    {"pop 1 at 31", POP, 1, 31, 30, 30, false},
+    {"pop 1 at 32", POP, 1, 32, 31, 31, true},
+    {"pop 1 at 33", POP, 1, 33, 0, 32, true},
+    {"pop 0 at 63", POP, 0, 63, 31, 63, true},
+    {"pop -1 at 63", POP, 0x3f, 63, 0, 0, false},
+    {"pop -1 at 30", POP, 0x3f, 30, 31, 31, true},
+    {"pop -32 at 0", POP, 0x20, 0, 0, 32, true},
+    {"pop 1 with other bits", POP, 0xffffffc1, 5, 4, 4, false},
+    {"store 30", STORE, 30, 63, 30, 63, false},
+    {"store 31", STORE, 31, 0, 31, 0, true},
+    {"store 0 with other bits", STORE, 0xffffffe0, 5, 0, 5, false},
+    {"restore 30", RESTORE, 30, 63, 30, 63, false},
+    {"restore 31", RESTORE, 31, 0, 31, 0, true},
+    {"restore 0 with other bits", RESTORE, 0xffffffe0, 5, 0, 5, false},
+};
+
+/* In modes 0 and 3, whose stacks have one slot. */
+static const move single_moves[] = {
+    {"one slot, push at 0", PUSH, 0, 0, 0, 1, false},
+    {"one slot, push at 1", PUSH, 0, 1, 0, 0, true},
+    {"one slot, pop at 0", POP, 1, 0, 0, 1, true},
+    {"one slot, pop at 1", POP, 0x3f, 1, 0, 0, false},
+    {"one slot, store 31 at 0", STORE, 31, 0, 0, 0, false},
+    {"one slot, store 31 at 1", STORE, 31, 1, 0, 1, false},
+    {"one slot, restore 31 at 0", RESTORE, 31, 0, 0, 0, false},
+    {"one slot, restore 31 at 1", RESTORE, 31, 1, 0, 1, false},
+};
+
+/* An engine that C makes: other numbers in each matrix and slot. */
+static nauvelppi_engine numbered(void)
+{
+    nauvelppi_engine e = fresh(VERTICES, POLYGONS);
+    nauvelppi_transform *t = &e.core.registers.transform;
+    int32_t *const short_runs[] = {t->pair.position, t->pair.vector, t->projection.matrix, t->projection.slot,
+                                   t->texture.matrix, t->texture.slot};
+    for (int32_t i = 0; i < 512; i++) {
+        e.core.stacks.positions[i] = 1000 + i;
+        e.core.stacks.vectors[i] = 2000 + i;
+    }
+    for (size_t k = 0; k < COUNT(short_runs); k++)
+        for (int32_t i = 0; i < 16; i++)
+            short_runs[k][i] = -100 * (int32_t)(k + 1) - i;
+    return e;
+}
+
+static size_t *level_in(uint32_t mode, nauvelppi_transform *t)
+{
+    return mode == 0 ? &t->projection.level : mode == 3 ? &t->texture.level : &t->pair.level;
+}
+
+/* A push or store copies to the slot, a pop or restore from it. */
+static void copy(int to_slot, int32_t *matrix, int32_t *slot)
+{
+    memcpy(to_slot ? slot : matrix, to_slot ? matrix : slot, 16 * sizeof *slot);
+}
+
+static void moves_in(uint32_t mode, const move *m)
+{
+    nauvelppi_engine e = numbered();
+    e.core.registers.transform.mode = mode;
+    *level_in(mode, &e.core.registers.transform) = m->level;
+
+    nauvelppi_engine expected = e;
+    nauvelppi_transform *t = &expected.core.registers.transform;
+    int to_slot = m->command == PUSH || m->command == STORE;
+    if (mode == 0)
+        copy(to_slot, t->projection.matrix, t->projection.slot);
+    else if (mode == 3)
+        copy(to_slot, t->texture.matrix, t->texture.slot);
+    else {
+        copy(to_slot, t->pair.position, expected.core.stacks.positions + 16 * m->slot);
+        copy(to_slot, t->pair.vector, expected.core.stacks.vectors + 16 * m->slot);
+    }
+    *level_in(mode, t) = m->after;
+    t->error = m->error;
+
+    take(m->name, &e, m->command);
+    take(m->name, &e, m->parameter);
+    check(same_meaning(&e, &expected), m->name, "another engine");
+}
+
+/* From a fresh engine 31 pushes, one more and a pop of 2, which is no error and leaves the flag. */
+static void pushes(uint32_t mode)
+{
+    const uint32_t translate[] = {0x00001c10, mode, 4096, (uint32_t)-8192, 2048};
+    static const uint32_t push[] = {PUSH, 0}, pop[] = {POP, 2};
+    nauvelppi_engine e = nauvelppi_start(VERTICES, POLYGONS).engine, expected = e;
+    nauvelppi_transform *t = &expected.core.registers.transform;
+    const int32_t *vector = mode == 1 ? unit : moved;
+    t->mode = mode;
+    memcpy(t->pair.position, moved, sizeof moved);
+    memcpy(t->pair.vector, vector, sizeof moved);
+
+    take_all("pushes", &e, translate, COUNT(translate));
+    for (size_t level = 0; level < 32; level++) {
+        take_all("pushes", &e, push, COUNT(push));
+        memcpy(expected.core.stacks.positions + 16 * level, moved, sizeof moved);
+        memcpy(expected.core.stacks.vectors + 16 * level, vector, sizeof moved);
+        t->pair.level = level + 1;
+        t->error = level == 31;
+        check(same_meaning(&e, &expected), "pushes", "another engine");
+    }
+    take_all("pushes, pop 2", &e, pop, COUNT(pop));
+    t->pair.level = 30;
+    check(same_meaning(&e, &expected), "pushes, pop 2", "another engine");
+}
+
+/* document 01, row 5, as document 02 has it: "Row 5's pop 1 gives level 63, slot 31 loaded and the error set" */
+static void pop_of_fresh(uint32_t mode)
+{
+    const uint32_t pop[] = {0x00001210, mode, 1};
+    nauvelppi_engine e = nauvelppi_start(VERTICES, POLYGONS).engine, expected = e;
+    take_all("pop 1 of a fresh engine", &e, pop, COUNT(pop));
+    expected.core.registers.transform.mode = mode;
+    popped_once(&expected.core.registers.transform);
+    check(same_meaning(&e, &expected), "pop 1 of a fresh engine", "another engine");
+}
+
+/* Push, translate, push: the second stores the translation in the one slot and leaves level 0, an error. */
+static void two_pushes(uint32_t mode)
+{
+    static const int32_t translated[16] = {4096, 0, 0, 0, 0, 4096, 0, 0, 0, 0, 4096, 0, 1, 2, 3, 4096};
+    const uint32_t words[] = {0x111c1110, mode, 1, 2, 3, 0};
+    nauvelppi_engine e = nauvelppi_start(VERTICES, POLYGONS).engine, expected = e;
+    nauvelppi_transform *t = &expected.core.registers.transform;
+    nauvelppi_single *single = mode == 0 ? &t->projection : &t->texture;
+    take_all("one slot, two pushes", &e, words, COUNT(words));
+    memcpy(single->matrix, translated, sizeof translated);
+    memcpy(single->slot, translated, sizeof translated);
+    t->mode = mode;
+    t->error = true;
+    check(same_meaning(&e, &expected), "one slot, two pushes", "another engine");
+}
+
+static void stack_checks(void)
+{
+    for (uint32_t mode = 1; mode <= 2; mode++) {
+        for (size_t i = 0; i < COUNT(pair_moves); i++)
+            moves_in(mode, &pair_moves[i]);
+        pushes(mode);
+        pop_of_fresh(mode);
+    }
+    for (uint32_t mode = 0; mode <= 3; mode += 3) {
+        for (size_t i = 0; i < COUNT(single_moves); i++)
+            moves_in(mode, &single_moves[i]);
+        two_pushes(mode);
+    }
 }
 
 /* ---- Refusals */
@@ -255,6 +442,7 @@ int main(void)
 {
     start_checks();
     list_checks();
+    stack_checks();
     refusal_checks();
     return all_passed();
 }

@@ -78,10 +78,10 @@ static void fresh_engine(void)
     clears("fresh", &e);
 }
 
-/* Mode 0: scale by 2, 1, 1, push, and push again, an error. Mode 2: multiply by a 3x3 matrix, scale by 2, 1, 1, which
- * leaves the vector matrix, push three times. Then two triangles, of which the second is dropped. */
+/* Mode 0: pop at level 0, an error that leaves level 1; unit, scale by 2, 1, 1. Mode 2: multiply by a 3x3 matrix, scale
+ * by 2, 1, 1, which leaves the vector matrix, push three times. Then two triangles, of which the second is dropped. */
 static const uint32_t words[] = {
-    0x11111b10, 0, 8192, 4096, 4096, 0,
+    0x1b151210, 0, 1, 8192, 4096, 4096,
     0x111b1a10, 2, 100, -200, 300, 400, 500, -600, -700, 800, 1 << 20, 8192, 4096, 4096, 0,
     0x00001111, 0,
     0x25252540, 0, 0, 0, 0, 0x00252525, 0, 0, 0,
@@ -126,13 +126,14 @@ static void after_commands(void)
     reads("after a push", &e, &expected);
 }
 
-/* Each bit of the status by itself. */
+/* Each bit of the status by itself. Of the position and vector level the sixth bit is not shown. */
 static void status_bits(void)
 {
     nauvelppi_engine sound = nauvelppi_start(VERTICES, POLYGONS).engine, e = sound;
-    for (uint32_t level = 0; level < 32; level++) {
+    for (uint32_t level = 0; level < 64; level++) {
         e.core.registers.transform.pair.level = level;
-        check(nauvelppi_status(e).status == level << 8, "status", "position and vector level");
+        nauvelppi_status_answer s = nauvelppi_status(e);
+        check(s.number == 0 && s.status == level % 32 << 8, "status", "position and vector level");
     }
     e = sound;
     e.core.registers.transform.projection.level = 1;

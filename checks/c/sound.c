@@ -34,7 +34,7 @@ static void begin(void)
     fill_numbers(transform->texture.matrix, 16, 1 << 30);
     fill_numbers(transform->texture.slot, 16, -4096);
     fill_numbers(e.core.stacks.positions, COUNT(e.core.stacks.positions), INT32_MIN);
-    fill_numbers(e.core.stacks.vectors, COUNT(e.core.stacks.vectors), INT32_MAX - 495);
+    fill_numbers(e.core.stacks.vectors, COUNT(e.core.stacks.vectors), INT32_MAX - 511);
     transform->pair.level = 3;
     transform->projection.level = 0;
     transform->texture.level = 0;
@@ -182,7 +182,7 @@ static void range(const char *name, void *member, size_t width, uint64_t first, 
 
 static void ranges(void)
 {
-    RANGE(transform->pair.level, 0, 31);
+    RANGE(transform->pair.level, 0, 63);
     RANGE(transform->projection.level, 0, 1);
     RANGE(transform->texture.level, 0, 1);
     RANGE(transform->mode, 0, 3);

@@ -139,10 +139,10 @@ impl Engine {
         }
     }
 
-    /// Bits 8-12 S, bit 13 the projection level, bit 15 the error.
+    /// Bits 8-12 the low five bits of S, bit 13 the projection level, bit 15 the error.
     pub fn status(&self) -> u32 {
         let transform = &self.transform;
-        (transform.pair.level as u32) << 8
+        (transform.pair.level as u32 & 31) << 8
             | u32::from(transform.projection.pushed) << 13
             | u32::from(transform.error) << 15
     }

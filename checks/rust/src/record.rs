@@ -144,7 +144,7 @@ impl From<&Engine> for Record {
 
 /// The slots of a stack, one after another.
 fn numbers(slots: &[Matrix; SLOTS]) -> [i32; STACK_NUMBERS] {
-    slots.as_flattened().try_into().expect("31 slots of sixteen numbers")
+    slots.as_flattened().try_into().expect("32 slots of sixteen numbers")
 }
 
 impl From<&transform::Transform> for Transform {

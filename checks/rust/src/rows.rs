@@ -1,14 +1,20 @@
-//! Document 01, Rows to check, and document 02's examples, against this implementation.
+//! Document 01, Rows to check, rows 4 to 6 as document 02 works them again, and document 02's examples, against this
+//! implementation.
 
 use crate::engine::Engine;
 use crate::geometry::{Buffers, List};
 use crate::matrix::UNIT;
 use crate::pack::pack;
+use crate::record::Record;
 use crate::refusal::{Refusal, Refused};
 use crate::report::{replay_report, unpack_report, Input};
 use crate::stream::commands;
 use crate::table::{known, parameters, port};
+use crate::transform::{Pair, Single};
 use crate::words::to_bytes;
+
+/// The error in the status word.
+const ERROR: u32 = 1 << 15;
 
 /// An engine with large buffers of its own.
 struct Bench {
@@ -21,6 +27,17 @@ impl Bench {
     fn new(vertices: usize, polygons: usize) -> Self {
         let engine = Engine::start(vertices, polygons).expect("rooms in range");
         Bench { engine, vertices: vec![0; 5 * vertices], polygons: vec![0; 3 * polygons] }
+    }
+
+    /// In mode 1, at this level, with slots that all differ.
+    fn at_level(level: usize) -> Self {
+        let mut bench = Bench::new(1, 1);
+        bench.run(0x10, &[1]);
+        let pair = &mut bench.engine.transform.pair;
+        pair.level = level;
+        pair.positions = std::array::from_fn(|slot| [slot as i32; 16]);
+        pair.vectors = pair.positions.map(|slot| slot.map(|entry| -entry));
+        bench
     }
 
     /// Writes the parameters to the command's port, one write where it takes none.
@@ -43,11 +60,22 @@ impl Bench {
     }
 
     fn error(&self) -> bool {
-        self.engine.status() >> 15 & 1 == 1
+        self.engine.status() & ERROR != 0
     }
 
-    fn level(&self) -> u32 {
-        self.engine.status() >> 8 & 31
+    /// S, as the record has it.
+    fn level(&self) -> usize {
+        Record::from(&self.engine).core.registers.transform.pair.level
+    }
+
+    /// What the mode acts on where that has one slot: projection or texture.
+    fn single(&self, mode: u32) -> &Single {
+        let transform = &self.engine.transform;
+        if mode == 0 {
+            &transform.projection
+        } else {
+            &transform.texture
+        }
     }
 }
 
@@ -85,21 +113,22 @@ fn row_4_push_at_31() {
     let mut bench = Bench::new(1, 1);
     bench.run(0x10, &[1]);
     (0..31).for_each(|_| bench.run(0x11, &[]));
-    assert_eq!((bench.level(), bench.error()), (31, false));
+    assert_eq!((bench.level(), bench.engine.status()), (31, 31 << 8));
+    assert_eq!(bench.engine.transform.pair.positions[31], [0; 16]);
     bench.run(0x11, &[]);
-    assert_eq!((bench.level(), bench.error()), (31, true));
+    assert_eq!((bench.level(), bench.engine.status()), (32, ERROR));
+    assert_eq!(bench.engine.transform.pair.positions[31], UNIT);
 }
 
 #[test]
 fn row_5_pop() {
-    let mut bench = Bench::new(1, 1);
-    bench.run(0x10, &[1]);
-    bench.run(0x12, &[1]);
-    assert_eq!((bench.level(), bench.error()), (0, true));
-    assert_eq!(bench.engine.transform.pair.position, UNIT);
-    bench.run(0x12, &[0x3F]);
-    assert_eq!(bench.level(), 1);
-    assert_eq!(bench.engine.transform.pair.position, [0; 16]);
+    for (number, level, status) in [(1, 63, 31 << 8 | ERROR), (0x3F, 1, 1 << 8)] {
+        let mut bench = Bench::new(1, 1);
+        bench.run(0x10, &[1]);
+        bench.run(0x12, &[number]);
+        assert_eq!((bench.level(), bench.engine.status()), (level, status));
+        assert_eq!(bench.engine.transform.pair.position, [0; 16]);
+    }
 }
 
 #[test]
@@ -111,6 +140,7 @@ fn row_6_store() {
     assert_eq!(bench.engine.transform.pair.vectors[30], UNIT);
     bench.run(0x13, &[31]);
     assert!(bench.error());
+    assert_eq!(bench.engine.transform.pair.vectors[31], UNIT);
 }
 
 #[test]
@@ -195,11 +225,105 @@ fn orders_in_strips() {
 #[test]
 fn clearing_the_error_clears_the_projection_level() {
     let mut bench = Bench::new(1, 1);
-    bench.run(0x11, &[]);
-    bench.run(0x11, &[]);
-    assert_eq!(bench.engine.status(), 1 << 13 | 1 << 15);
+    bench.run(0x12, &[0]);
+    assert_eq!(bench.engine.status(), 1 << 13 | ERROR);
     bench.engine.clear_error();
     assert_eq!(bench.engine.status(), 0);
+}
+
+#[test]
+fn a_push_at_each_level() {
+    for level in 0..64 {
+        let mut bench = Bench::at_level(level);
+        let Pair { mut positions, mut vectors, .. } = bench.engine.transform.pair;
+        (positions[level % 32], vectors[level % 32]) = (UNIT, UNIT);
+        bench.run(0x11, &[]);
+        assert_eq!((bench.level(), bench.error()), ((level + 1) % 64, level >= 31));
+        let pair = &bench.engine.transform.pair;
+        assert_eq!((pair.positions, pair.vectors), (positions, vectors));
+    }
+}
+
+#[test]
+fn each_pop_at_each_level() {
+    for level in 0..64 {
+        for number in 0..64 {
+            let mut bench = Bench::at_level(level);
+            bench.run(0x12, &[number as u32]);
+            let target = (64 + level - number) % 64;
+            let slot = target as i32 % 32;
+            assert_eq!((bench.level(), bench.error()), (target, target >= 31));
+            let pair = &bench.engine.transform.pair;
+            assert_eq!((pair.position, pair.vector), ([slot; 16], [-slot; 16]));
+        }
+    }
+}
+
+#[test]
+fn restore_uses_no_level() {
+    for slot in 0..32 {
+        let mut bench = Bench::at_level(33);
+        bench.run(0x14, &[slot as u32]);
+        assert_eq!((bench.level(), bench.error()), (33, slot == 31));
+        let pair = &bench.engine.transform.pair;
+        assert_eq!((pair.position, pair.vector), ([slot; 16], [-slot; 16]));
+    }
+}
+
+#[test]
+fn one_slot_stacks_move_on_an_error() {
+    for mode in [0, 3] {
+        let mut bench = Bench::new(1, 1);
+        bench.run(0x10, &[mode]);
+        bench.run(0x12, &[0]);
+        assert_eq!((bench.single(mode).matrix, bench.single(mode).pushed, bench.error()), ([0; 16], true, true));
+        bench.engine.transform.error = false;
+        bench.run(0x15, &[]);
+        bench.run(0x11, &[]);
+        assert_eq!((bench.single(mode).slot, bench.single(mode).pushed, bench.error()), (UNIT, false, true));
+    }
+}
+
+#[test]
+fn a_list_with_two_projection_pushes() {
+    let mut bench = Bench::new(1, 1);
+    assert_eq!(bench.list(&[0x111C_1110, 0, 1, 2, 3, 0]), (6, None));
+    assert_eq!(bench.engine.status(), ERROR);
+    assert_eq!(bench.single(0).slot[12..], [1, 2, 3, 4096]);
+}
+
+#[test]
+fn one_slot_stacks_look_at_no_slot() {
+    for mode in [0, 3] {
+        let mut bench = Bench::new(1, 1);
+        bench.run(0x10, &[mode]);
+        bench.run(0x13, &[31]);
+        bench.run(0x16, &[7; 16]);
+        bench.run(0x14, &[31]);
+        assert_eq!((bench.single(mode).matrix, bench.single(mode).pushed, bench.error()), (UNIT, false, false));
+    }
+}
+
+#[test]
+fn the_clip_matrix_after_an_error() {
+    for (mode, command, parameter) in [(0, 0x12, 0), (1, 0x12, 1), (1, 0x14, 31)] {
+        let mut bench = Bench::new(1, 1);
+        bench.run(0x40, &[0]);
+        bench.run(0x23, &[0, 0]);
+        bench.run(0x10, &[mode]);
+        bench.run(command, &[parameter]);
+        assert_eq!((bench.engine.clip(), bench.error()), ([0; 16], true));
+    }
+}
+
+#[test]
+fn sound_levels() {
+    let mut record = Record::from(&Bench::new(1, 1).engine);
+    assert_eq!((record.core.stacks.positions, record.core.stacks.vectors), ([0; 512], [0; 512]));
+    for (level, sound) in [(31, true), (32, true), (63, true), (64, false)] {
+        record.core.registers.transform.pair.level = level;
+        assert_eq!(record.engine().is_ok(), sound);
+    }
 }
 
 #[test]

@@ -1,5 +1,5 @@
-//! Whether a record is sound, and the engine that it then is (document 01, Numbers a call can refuse with). What a
-//! type bounds already needs no test, and cells past a count are not looked at.
+//! Whether a record is sound, and the engine that it then is (document 01, Numbers a call can refuse with; document
+//! 02, T-02). What a type bounds already needs no test, and cells past a count are not looked at.
 
 use crate::engine::{in_range, Engine};
 use crate::geometry::{self, List, Vertex};
@@ -8,7 +8,7 @@ use crate::record::{Core, Counts, Geometry, Record, Single, Stream, Waiting, STA
 use crate::refusal::Refusal;
 use crate::stream::{self, commands, Pending};
 use crate::table::parameters;
-use crate::transform::{self, Mode, SLOTS};
+use crate::transform::{self, Mode, LEVELS, SLOTS};
 
 /// The colours are 0 to 7FFFh.
 const MOST_COLOUR: u32 = 0x7FFF;
@@ -26,10 +26,10 @@ impl Record {
 }
 
 impl Core {
-    /// Mode 0 to 3, S 0 to 31, the other two levels 0 or 1.
+    /// Mode 0 to 3, S 0 to 63, the other two levels 0 or 1.
     fn read_transform(&self) -> Option<transform::Transform> {
         let given = &self.registers.transform;
-        if given.mode > 3 || given.pair.level > SLOTS {
+        if given.mode > 3 || given.pair.level >= LEVELS {
             return None;
         }
         let pair = transform::Pair {
@@ -47,7 +47,7 @@ impl Core {
 
 /// The numbers of a stack as its slots.
 fn slots(numbers: &[i32; STACK_NUMBERS]) -> [Matrix; SLOTS] {
-    numbers.as_chunks().0.try_into().expect("31 slots of sixteen numbers")
+    numbers.as_chunks().0.try_into().expect("32 slots of sixteen numbers")
 }
 
 impl Single {

@@ -1,9 +1,15 @@
-//! The four matrices, their stacks and the commands 10h to 1Ch (document 01, Matrices).
+//! The four matrices, their stacks and the commands 10h to 1Ch (document 01, Matrices; document 02, T-02).
 
 use crate::matrix::{self, Matrix, UNIT};
 
 /// The slots of the position and vector stack.
-pub const SLOTS: usize = 31;
+pub const SLOTS: usize = 32;
+
+/// The levels of that stack, 0 to 63: S has six bits.
+pub const LEVELS: usize = 64;
+
+/// Push at this level or above, pop to it or above, store and restore of this slot are errors.
+const FIRST_ERROR: usize = 31;
 
 /// What the matrix commands act on: bits 0-1 of 10h.
 #[derive(Clone, Copy, Debug, PartialEq, Eq)]
@@ -30,30 +36,35 @@ impl Mode {
 pub struct Single {
     pub matrix: Matrix,
     pub slot: Matrix,
-    /// Whether the slot is in use: level 1.
+    /// Whether the level is 1.
     pub pushed: bool,
 }
 
 impl Single {
     const FRESH: Single = Single { matrix: UNIT, slot: [0; 16], pushed: false };
 
-    /// False where it is an error, and then nothing has changed; so also `pop`.
+    /// Stores, and the level flips; true where it is an error, at level 1.
     fn push(&mut self) -> bool {
-        if self.pushed {
-            return false;
-        }
-        self.slot = self.matrix;
-        self.pushed = true;
-        true
+        let error = self.pushed;
+        self.store();
+        self.pushed = !self.pushed;
+        error
     }
 
+    /// Loads, and the level flips; true where it is an error, at level 0.
     fn pop(&mut self) -> bool {
-        if !self.pushed {
-            return false;
-        }
+        let error = !self.pushed;
+        self.restore();
+        self.pushed = !self.pushed;
+        error
+    }
+
+    fn store(&mut self) {
+        self.slot = self.matrix;
+    }
+
+    fn restore(&mut self) {
         self.matrix = self.slot;
-        self.pushed = false;
-        true
     }
 }
 
@@ -64,7 +75,7 @@ pub struct Pair {
     pub vector: Matrix,
     pub positions: [Matrix; SLOTS],
     pub vectors: [Matrix; SLOTS],
-    /// S, from 0 to 31.
+    /// S, from 0 to 63.
     pub level: usize,
 }
 
@@ -72,40 +83,33 @@ impl Pair {
     const FRESH: Pair =
         Pair { position: UNIT, vector: UNIT, positions: [[0; 16]; SLOTS], vectors: [[0; 16]; SLOTS], level: 0 };
 
-    /// False where the slot is none of the stack's, and then nothing has changed; so also the three below.
-    fn store(&mut self, slot: usize) -> bool {
-        if slot >= SLOTS {
-            return false;
-        }
+    /// Stores at a level or a slot, in slot `place` mod 32; true where it is an error. So also the three below.
+    fn store(&mut self, place: usize) -> bool {
+        let slot = place % SLOTS;
         self.positions[slot] = self.position;
         self.vectors[slot] = self.vector;
-        true
+        place >= FIRST_ERROR
     }
 
-    fn restore(&mut self, slot: usize) -> bool {
-        if slot >= SLOTS {
-            return false;
-        }
+    fn restore(&mut self, place: usize) -> bool {
+        let slot = place % SLOTS;
         self.position = self.positions[slot];
         self.vector = self.vectors[slot];
-        true
+        place >= FIRST_ERROR
     }
 
+    /// Stores at S, which becomes (S + 1) mod 64.
     fn push(&mut self) -> bool {
-        let stored = self.store(self.level);
-        self.level += usize::from(stored);
-        stored
+        let error = self.store(self.level);
+        self.level = (self.level + 1) % LEVELS;
+        error
     }
 
-    /// N is bits 0-5, signed; the new level is S - N.
+    /// N is bits 0-5, signed; S becomes T = (S - N) mod 64, and what is stored at T is loaded.
     fn pop(&mut self, parameter: u32) -> bool {
         let number = (parameter << 26) as i32 >> 26;
-        let Ok(level) = usize::try_from(self.level as i32 - number) else { return false };
-        let restored = self.restore(level);
-        if restored {
-            self.level = level;
-        }
-        restored
+        self.level = (self.level as i32 - number).rem_euclid(LEVELS as i32) as usize;
+        self.restore(self.level)
     }
 }
 
@@ -189,14 +193,13 @@ impl Transform {
         self.forget_clip();
     }
 
-    /// Push, pop, store and restore.
+    /// Push, pop, store and restore. On an error the flag is set and the move is made too.
     fn run_stack(&mut self, command: u8, parameter: u32) {
-        let done = match self.mode {
+        self.error |= match self.mode {
             Mode::Projection => run_single(&mut self.projection, command),
             Mode::Texture => run_single(&mut self.texture, command),
             Mode::Position | Mode::PositionAndVector => run_pair(&mut self.pair, command, parameter),
         };
-        self.error |= !done;
         if matches!(command, 0x12 | 0x14) {
             self.forget_clip();
         }
@@ -209,23 +212,24 @@ impl Transform {
     }
 }
 
-/// The stack commands in modes 0 and 3: the parameter is not looked at.
+/// The stack commands in modes 0 and 3; true where it is an error, which store and restore never are. The parameter is
+/// not looked at.
 fn run_single(single: &mut Single, command: u8) -> bool {
     match command {
         0x11 => single.push(),
         0x12 => single.pop(),
         0x13 => {
-            single.slot = single.matrix;
-            true
+            single.store();
+            false
         }
         _ => {
-            single.matrix = single.slot;
-            true
+            single.restore();
+            false
         }
     }
 }
 
-/// The stack commands in modes 1 and 2.
+/// The stack commands in modes 1 and 2; true where it is an error.
 fn run_pair(pair: &mut Pair, command: u8, parameter: u32) -> bool {
     let slot = (parameter & 31) as usize;
     match command {

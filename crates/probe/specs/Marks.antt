@@ -66,7 +66,7 @@ markedGeometry =
     }
 
 abbrev pub markedStacks : Stacks
-markedStacks = record { positions = numbers 496 26; vectors = numbers 496 27 }
+markedStacks = record { positions = numbers 512 26; vectors = numbers 512 27 }
 
 abbrev pub markedStream : Stream
 markedStream =

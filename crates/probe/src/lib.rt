@@ -110,8 +110,8 @@ fn marked_stacks() -> Stacks
     ensures { λ r. ⌜ r ≡ markedStacks ⌝ }
 {
     Stacks {
-        positions: [-0x1a00_001a; 496],
-        vectors: [-0x1b00_001b; 496],
+        positions: [-0x1a00_001a; 512],
+        vectors: [-0x1b00_001b; 512],
     }
 }
 

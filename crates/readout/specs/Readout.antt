@@ -27,7 +27,7 @@ use Rattle.readout.specs.Numbers.{signedText, numbersLine, chunks}
 abbrev pub flag : Bool → ℕ
 flag b = cond b 1 0
 
--- position and vector level, projection level, texture level
+-- position and vector level as it is (reading 39), projection level, texture level
 unfoldable pub levelsLine : ℕ → ℕ → ℕ → List ℕ
 levelsLine s p t = ascii "levels " ++ decimal s ++ ascii " " ++ decimal p ++ numberLine (ascii " ") t
 

@@ -105,7 +105,7 @@ fn put_flag_line(text: &mut [u8], at: usize, name: &[u8], b: bool) -> usize
 
 // The levels.
 fn put_levels(text: &mut [u8], at: usize, s: usize, p: usize, t: usize) -> usize
-    requires { ⌜ (s ≤ 31) × (p ≤ 1) × (t ≤ 1) ⌝ }
+    requires { ⌜ (s ≤ 63) × (p ≤ 1) × (t ≤ 1) ⌝ }
     requires { ⌜ at + 40 ≤ length (now text) ⌝ }
     ensures { λ r. ⌜ Puts (levelsLine s p t) at r (now (text .entry)) (now (text .exit)) ⌝ }
 {

@@ -3,7 +3,7 @@
 use mathlib.Core.Path.{refl}
 use Rattle.lowbits.specs.Bits.{floorBits, lowBits, asSigned}
 use Rattle.commands.specs.Commands.{lookup, known, count, port, counted, commandAt, commandBytes, hole}
-use Rattle.matrix.specs.Matrix.{entry, rowBy, mul, unit, scaleMatrix}
+use Rattle.matrix.specs.Matrix.{entry, rowBy, mul, unit, scaleMatrix, translateMatrix}
 use Rattle.stream.specs.Pending.{commandsOf, soundPending}
 use Rattle.stream.specs.Command.{takesNone}
 use Rattle.stream.specs.Step.{commandWord, parameterWord, wordStep, heldWith, portParameter, portStep}
@@ -16,7 +16,8 @@ use Rattle.state.specs.List.{listOf}
 use Rattle.state.specs.With.{withRooms}
 use Rattle.state.specs.Fresh.{freshTransform, freshGeometry, fresh, start}
 use Rattle.state.specs.Sound.{soundTransform, soundWaiting, soundGeometry, soundCore}
-use Rattle.stacks.specs.Stack.{stored, loaded, pushPair, popPair, storePair, runStack}
+use Rattle.stacks.specs.Stack.{stored, loaded, target, pairMoved, pairFails, flipped, singleMoved}
+use Rattle.stacks.specs.Stack.{singleFails, runStack}
 use Rattle.transforms.specs.Act.{act}
 use Rattle.transforms.specs.Command.{numbersOf, runMatrix}
 use Rattle.positions.specs.Position.{positionAfter}
@@ -29,7 +30,8 @@ use Rattle.geometry.specs.Command.{runGeometry}
 use Rattle.execute.specs.Operation.{registerCommandOf, operationOf}
 use Rattle.execute.specs.Execute.{runRegisters, runOperation, execute}
 use Rattle.rows.specs.Rows.{GroupHolds, AllHold, commandTableRows, wordRows, matrixRows, stackRows, geometryRows}
-use Rattle.rows.specs.Rows.{packRows, workedRows, popReadings, readerReadings, listReadings, readings}
+use Rattle.rows.specs.Rows.{packRows, workedRows, popReadings, readerReadings, listReadings, singleReadings}
+use Rattle.rows.specs.Rows.{readings}
 
 command-table : GroupHolds commandTableRows
 unfolding lookup
@@ -47,8 +49,8 @@ unfolding floorBits lowBits asSigned entry rowBy mul scaleMatrix freshTransform 
 matrices = (refl, tt)
 
 stacks : GroupHolds stackRows
-unfolding lowBits asSigned unit freshTransform fresh runMatrix stored loaded pushPair popPair storePair runStack
-stacks = (refl, (refl, (refl, (refl, (refl, (refl, (refl, (refl, tt))))))))
+unfolding lowBits asSigned unit freshTransform fresh runMatrix stored loaded target pairMoved pairFails runStack
+stacks = (refl, (refl, (refl, (refl, (refl, (refl, (refl, (refl, (refl, (refl, tt))))))))))
 
 geometries : GroupHolds geometryRows
 unfolding listOf floorBits lowBits asSigned entry rowBy mul unit freshTransform freshGeometry fresh withRooms start
@@ -65,8 +67,8 @@ pub worked : AllHold workedRows
 worked = (command-table, (words, (matrices, (stacks, (geometries, (packs, tt))))))
 
 pops : GroupHolds popReadings
-unfolding lowBits asSigned
-pops = (refl, tt)
+unfolding lowBits asSigned freshTransform fresh runMatrix stored target pairMoved pairFails runStack
+pops = (refl, (refl, tt))
 
 readers : GroupHolds readerReadings
 unfolding lookup known count port counted commandBytes hole commandsOf takesNone commandWord parameterWord wordStep
@@ -79,5 +81,13 @@ unfolding listOf lookup known count counted commandBytes hole commandsOf soundPe
     soundCore longEnough
 lists = (refl, (refl, (refl, (refl, (refl, (refl, (refl, (refl, (refl, tt)))))))))
 
+singles : GroupHolds singleReadings
+unfolding listOf lookup known count counted commandBytes hole commandsOf soundPending takesNone commandWord
+    parameterWord heldWith wordStep callBy listBy lowBits asSigned floorBits entry rowBy mul unit translateMatrix
+    freshTransform freshGeometry fresh withRooms start soundTransform soundWaiting soundGeometry soundCore longEnough
+    numbersOf act runMatrix registerCommandOf operationOf runRegisters runOperation execute flipped singleMoved
+    singleFails runStack
+singles = (refl, (refl, (refl, (refl, (refl, tt)))))
+
 pub all-readings : AllHold readings
-all-readings = (pops, (readers, (lists, tt)))
+all-readings = (pops, (readers, (lists, (singles, tt))))

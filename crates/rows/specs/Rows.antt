@@ -1,12 +1,13 @@
--- Document 01, "Rows to check", those marked P: what the definitions give, beside what the row says. One claim covers
--- the table (proofs/Rows.antt), and each of its rows holds by computing the definitions. A second list, with a claim of
--- its own, shows readings of documents 01 and 02 (docs/DECISIONS.md).
-use mathlib.Core.Bool.{true, false}
-use mathlib.Core.List.{List, [], _∷_, map}
+-- Document 01, "Rows to check", those marked P, rows 4 to 6 as document 02, T-02, works them again: what the
+-- definitions give, beside what the row says. One claim covers the table (proofs/Rows.antt), and each of its rows holds
+-- by computing the definitions. A second list, with a claim of its own, shows readings of documents 01 and 02
+-- (docs/DECISIONS.md).
+use mathlib.Core.Bool.{Bool, true, false}
+use mathlib.Core.List.{List, [], _∷_, _++_, map}
 use mathlib.Core.Path.{_≡_}
 use Prim.Native.Nat.{ℕ, zero, suc, _*_}
 use lib.IntN.{ℤ, pos, negsuc}
-use lib.ListN.{replicate}
+use lib.ListN.{replicate, take}
 use Rattle.commands.specs.declared.Count.the-variants.{Takes, Unknown}
 use Rattle.commands.specs.Commands.{lookup}
 use Rattle.matrix.specs.Matrix.{unit, at}
@@ -18,14 +19,16 @@ use Rattle.stream.specs.Pack.{pack}
 use Rattle.stream.specs.Unpack.{unpackFrom}
 use Rattle.stream.specs.Call.{Machine, machine, reply, run}
 use Rattle.stream.specs.Feed.{fed, placeOf}
+use Rattle.state.specs.declared.Single.{Single}
+use Rattle.state.specs.declared.Transform.{Transform}
 use Rattle.state.specs.declared.Geometry.{Geometry}
 use Rattle.state.specs.declared.Core.{Core}
 use Rattle.state.specs.With.{withPair}
 use Rattle.state.specs.Sizes.{vertexWidth}
 use Rattle.state.specs.Fresh.{zeros, fresh, start}
 use Rattle.stacks.specs.declared.Matrices.{Matrices}
-use Rattle.stacks.specs.declared.StackCommand.the-variants.{Push, Pop, Store}
-use Rattle.stacks.specs.Matrices.{putTransform, failed}
+use Rattle.stacks.specs.declared.StackCommand.the-variants.{Push, Pop, Store, Restore}
+use Rattle.stacks.specs.Matrices.{putTransform, flagged}
 use Rattle.stacks.specs.Slot.{slotAt}
 use Rattle.stacks.specs.Stack.{level, target, runStack}
 use Rattle.transforms.specs.declared.MatrixCommand.the-variants.{Mode}
@@ -53,17 +56,23 @@ AllHold (g ∷ gs) = GroupHolds g × AllHold gs
 
 -- ---- engines
 
--- the fresh matrices in mode 1
-abbrev inMode1 : Matrices
-inMode1 =
+-- the fresh matrices in mode n
+abbrev inMode : ℕ → Matrices
+inMode n =
     let c : Core = fresh .core in
-    record { transform = runMatrix Mode (1 ∷ []) (c .registers .transform); stacks = c .stacks }
+    record { transform = runMatrix Mode (n ∷ []) (c .registers .transform); stacks = c .stacks }
 
--- the same with position level 31
-abbrev atLevel31 : Matrices
-atLevel31 =
-    putTransform inMode1
-    (withPair (inMode1 .transform) (record { position = unit; vector = unit; level = 31 }))
+-- holding these matrices of position and vector, and position level n
+abbrev holding : List ℤ → List ℤ → ℕ → Matrices → Matrices
+holding a b n m = putTransform m (withPair (m .transform) (record { position = a; vector = b; level = n }))
+
+-- in mode 1, with the unit matrix in slot 31 of both stacks
+abbrev unitInSlot31 : Matrices
+unitInSlot31 =
+    record {
+      transform = inMode 1 .transform;
+      stacks = record { positions = zeros 496 ++ unit; vectors = zeros 496 ++ unit };
+    }
 
 -- after n pushes
 abbrev pushes : ℕ → Matrices → Matrices
@@ -109,6 +118,16 @@ scaled raw by =
 abbrev vertex : ℕ → ℕ × List ℕ
 vertex x = (0x23, x ∷ 0 ∷ [])
 
+-- the projection matrix with its stack, and the error flag, after these words
+abbrev projectionAfter : List ℕ → Single × Bool
+projectionAfter ws =
+    let t : Transform = wordsReply atStart ws .left .state .part .registers .transform in
+    (t .projection, t .error)
+
+-- the unit matrix translated by 1, 2 and 3
+abbrev oneTwoThree : List ℤ
+oneTwoThree = take 12 unit ++ pos 1 ∷ pos 2 ∷ pos 3 ∷ pos 4096 ∷ []
+
 -- two triangles; the attributes are given before and after 40h, the colour before each of the first three vertices
 abbrev twoTriangles : List (ℕ × List ℕ)
 twoTriangles =
@@ -140,20 +159,22 @@ matrixRows =
 
 abbrev pub stackRows : List WorkedRow
 stackRows =
-    -- 4: position level 31, push: error, level 31, and nothing else changes
-    gives (level (pushes 31 inMode1) ∷ level (pushes 32 inMode1) ∷ []) (31 ∷ 31 ∷ [])
-    ∷ gives (pushes 31 inMode1 .transform .error ∷ pushes 32 inMode1 .transform .error ∷ []) (false ∷ true ∷ [])
-    ∷ gives (runStack Push 0 atLevel31) (failed atLevel31)
-    -- 5: fresh, mode 1, pop 1: error, and nothing else changes
-    ∷ gives (runStack Pop 1 inMode1) (failed inMode1)
+    -- 4: position level 31, push: error, level 32; both matrices go to slot 31
+    gives (level (pushes 31 (inMode 1)) ∷ level (pushes 32 (inMode 1)) ∷ []) (31 ∷ 32 ∷ [])
+    ∷ gives (pushes 31 (inMode 1) .transform .error ∷ pushes 32 (inMode 1) .transform .error ∷ []) (false ∷ true ∷ [])
+    ∷ gives (runStack Push 0 (holding unit unit 31 (inMode 1)))
+    (flagged true (holding unit unit 32 unitInSlot31))
+    -- 5: fresh, mode 1, pop 1: error, level 63, slot 31 loaded
+    ∷ gives (runStack Pop 1 (inMode 1)) (flagged true (holding (zeros 16) (zeros 16) 63 (inMode 1)))
+    ∷ gives (runStack Pop 1 (holding (zeros 16) (zeros 16) 0 unitInSlot31))
+    (flagged true (holding unit unit 63 unitInSlot31))
     -- pop 3Fh: level 1, position matrix all zero; the vector matrix is loaded too, and nothing else changes
-    ∷ gives (runStack Pop 0x3f inMode1)
-    (putTransform inMode1
-    (withPair (inMode1 .transform) (record { position = zeros 16; vector = zeros 16; level = 1 })))
-    -- 6: store 30 fine, 31 error
-    ∷ gives (slotAt (runStack Store 30 inMode1 .stacks .positions) 30) unit
-    ∷ gives (runStack Store 30 inMode1 .transform .error) false
-    ∷ gives (runStack Store 31 inMode1) (failed inMode1)
+    ∷ gives (runStack Pop 0x3f (inMode 1)) (holding (zeros 16) (zeros 16) 1 (inMode 1))
+    -- 6: store 30 fine, 31 error, in slot 31; so restore
+    ∷ gives (slotAt (runStack Store 30 (inMode 1) .stacks .positions) 30) unit
+    ∷ gives (runStack Store 30 (inMode 1) .transform .error) false
+    ∷ gives (runStack Store 31 (inMode 1)) (flagged true unitInSlot31)
+    ∷ gives (runStack Restore 31 (holding (zeros 16) (zeros 16) 0 unitInSlot31)) (flagged true unitInSlot31)
     ∷ []
 
 abbrev pub geometryRows : List WorkedRow
@@ -185,10 +206,11 @@ workedRows = commandTableRows ∷ wordRows ∷ matrixRows ∷ stackRows ∷ geom
 
 abbrev pub popReadings : List WorkedRow
 popReadings =
-    -- reading 7: pop's N is the low six bits of its word as a signed number, -32 to 31; T = S - N from S = 5, for
-    -- N = 0, 5, 6, 31, -32 and -1, and for a word with bits above those six
-    gives (map (target 5) (0 ∷ 5 ∷ 6 ∷ 31 ∷ 32 ∷ 0x3f ∷ 0xffff_ff40 ∷ []))
-    (pos 5 ∷ pos 0 ∷ negsuc 0 ∷ negsuc 25 ∷ pos 37 ∷ pos 6 ∷ pos 5 ∷ [])
+    -- reading 7: pop's N is the low six bits of its word as a signed number, -32 to 31; T = (S - N) mod 64 from S = 5,
+    -- for N = 0, 5, 6, 31, -32 and -1, and for a word with bits above those six
+    gives (map (target 5) (0 ∷ 5 ∷ 6 ∷ 31 ∷ 32 ∷ 0x3f ∷ 0xffff_ff40 ∷ [])) (5 ∷ 0 ∷ 63 ∷ 38 ∷ 37 ∷ 6 ∷ 5 ∷ [])
+    -- a push of level 63 and a pop of -1 go to level 0
+    ∷ gives (level (runStack Push 0 (holding unit unit 63 (inMode 1))) ∷ target 63 0x3f ∷ []) (0 ∷ 0 ∷ [])
     ∷ []
 
 abbrev pub readerReadings : List WorkedRow
@@ -218,5 +240,19 @@ listReadings =
     ∷ gives (wordsReply (machine tooShort notSound) []) (fed 0 1 (machine tooShort notSound))
     ∷ []
 
+abbrev pub singleReadings : List WorkedRow
+singleReadings =
+    -- reading 36: a push at 1 stores and leaves level 0; here the words 111C1110h, 0, 1, 2, 3, 0, which end with
+    -- projection level 0 and the error
+    gives (projectionAfter (0x111c_1110 ∷ 0 ∷ 1 ∷ 2 ∷ 3 ∷ 0 ∷ []))
+    (record { matrix = oneTwoThree; slot = oneTwoThree; level = 0 }, true)
+    -- a pop at 0 loads and leaves level 1; here of the fresh texture stack
+    ∷ gives (runStack Pop 1 (inMode 3) .transform .texture) (record { matrix = zeros 16; slot = zeros 16; level = 1 })
+    ∷ gives (runStack Pop 1 (inMode 3) .transform .error) true
+    -- reading 37: store and restore with 31 are no error in modes 0 and 3
+    ∷ gives (map (λ (n : ℕ). runStack Store 31 (inMode n) .transform .error) (0 ∷ 3 ∷ [])) (false ∷ false ∷ [])
+    ∷ gives (map (λ (n : ℕ). runStack Restore 31 (inMode n) .transform .error) (0 ∷ 3 ∷ [])) (false ∷ false ∷ [])
+    ∷ []
+
 abbrev pub readings : List (List WorkedRow)
-readings = popReadings ∷ readerReadings ∷ listReadings ∷ []
+readings = popReadings ∷ readerReadings ∷ listReadings ∷ singleReadings ∷ []

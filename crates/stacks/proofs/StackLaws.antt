@@ -1,7 +1,7 @@
 -- A stack command by the mode, on the matrices of their parts.
 use mathlib.Core.Bool.{true, false, _||_}
 use mathlib.Core.List.{List}
-use mathlib.Core.Path.{_≡_}
+use mathlib.Core.Path.{_≡_, refl}
 use Prim.Native.Nat.{ℕ}
 use lib.IntN.{ℤ}
 use Rattle.state.specs.Mode.{usesPair}
@@ -9,7 +9,8 @@ use Rattle.stacks.specs.declared.Levels.{Levels}
 use Rattle.stacks.specs.declared.Matrices.{Matrices}
 use Rattle.stacks.specs.declared.Moved.{Moved}
 use Rattle.stacks.specs.declared.StackCommand.{StackCommand}
-use Rattle.stacks.specs.Stack.{runStack}
+use Rattle.stacks.specs.declared.StackCommand.the-variants.{Push}
+use Rattle.stacks.specs.Stack.{pairMoved, pairFails, runStack}
 use Rattle.stacks.specs.Inside.{matricesFrom, PairActs, SingleActs}
 use Rattle.stacks.proofs.SingleLaws.{ran-texture as by-texture, ran-projection as by-projection}
 
@@ -18,14 +19,14 @@ abbrev levelsAfter : Levels → Moved → ℕ → ℕ → ℕ → Levels
 levelsAfter l r pair projection texture =
     record { mode = l .mode; pair = pair; projection = projection; texture = texture; error = l .error || r .failed }
 
-abbrev pub pairMoved : Levels → Moved → Levels
-pairMoved l r = levelsAfter l r (r .level) (l .projection) (l .texture)
+abbrev pub pairLevels : Levels → Moved → Levels
+pairLevels l r = levelsAfter l r (r .level) (l .projection) (l .texture)
 
-abbrev pub projectionMoved : Levels → Moved → Levels
-projectionMoved l r = levelsAfter l r (l .pair) (r .level) (l .texture)
+abbrev pub projectionLevels : Levels → Moved → Levels
+projectionLevels l r = levelsAfter l r (l .pair) (r .level) (l .texture)
 
-abbrev pub textureMoved : Levels → Moved → Levels
-textureMoved l r = levelsAfter l r (l .pair) (l .projection) (r .level)
+abbrev pub textureLevels : Levels → Moved → Levels
+textureLevels l r = levelsAfter l r (l .pair) (l .projection) (r .level)
 
 module _ (k : StackCommand) (p : ℕ) (l : Levels) (a b s v projection slot texture tslot : List ℤ) where
   abbrev m : Matrices
@@ -33,18 +34,23 @@ module _ (k : StackCommand) (p : ℕ) (l : Levels) (a b s v projection slot text
 
   pub ran-pair : usesPair (l .mode) ≡ true → (r : Moved) (a′ b′ s′ v′ : List ℤ)
       → PairActs k p (l .pair) a b s v r a′ b′ s′ v′
-      → matricesFrom (pairMoved l r) a′ b′ s′ v′ projection slot texture tslot ≡ runStack k p m
+      → matricesFrom (pairLevels l r) a′ b′ s′ v′ projection slot texture tslot ≡ runStack k p m
   unfolding runStack
   ran-pair u r a′ b′ s′ v′ acts = rw u (acts m (l .error))
 
   pub ran-texture : usesPair (l .mode) ≡ false → l .mode ≡ 3 → (r : Moved) (x y : List ℤ)
       → SingleActs k (l .texture) texture tslot r x y
-      → matricesFrom (textureMoved l r) a b s v projection slot x y ≡ runStack k p m
+      → matricesFrom (textureLevels l r) a b s v projection slot x y ≡ runStack k p m
   unfolding runStack
   ran-texture u three r x y acts = rw u (by-texture k m r x y three acts)
 
   pub ran-projection : usesPair (l .mode) ≡ false → (l .mode ≡ 3 → ⊥) → (r : Moved) (x y : List ℤ)
       → SingleActs k (l .projection) projection slot r x y
-      → matricesFrom (projectionMoved l r) a b s v x y texture tslot ≡ runStack k p m
+      → matricesFrom (projectionLevels l r) a b s v x y texture tslot ≡ runStack k p m
   unfolding runStack
   ran-projection u other r x y acts = rw u (by-projection k m r x y other acts)
+
+-- a push has no parameter
+pub push-reads-none : (p q : ℕ) (m : Matrices) → runStack Push p m ≡ runStack Push q m
+unfolding runStack pairMoved pairFails
+push-reads-none p q m = refl

@@ -31,7 +31,7 @@ cond-case P false x y f g = g refl
 
 pub record Ranges (t : Transform) : Type 0 where
   pub mode : t .mode ≤ 3
-  pub level : t .pair .level ≤ 31
+  pub level : t .pair .level ≤ 63
   pub projection : t .projection .level ≤ 1
   pub texture : t .texture .level ≤ 1
 
@@ -58,7 +58,7 @@ module _ (t : Transform) (r : Ranges t) where
   pub error-in : (b : Bool) → Ranges (withError t b)
   error-in b = record { mode = r .mode; level = r .level; projection = r .projection; texture = r .texture }
 
-  pub pair-in : (p : Pair) → p .level ≤ 31 → Ranges (withPair t p)
+  pub pair-in : (p : Pair) → p .level ≤ 63 → Ranges (withPair t p)
   pair-in p h = record { mode = r .mode; level = h; projection = r .projection; texture = r .texture }
 
   pub single-in : (s : Single) → s .level ≤ 1 → Ranges (withSingle t s)

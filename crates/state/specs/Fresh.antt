@@ -1,5 +1,6 @@
 -- The fresh engine, and what a start answers. Document 01, Matrices: "Fresh: all matrices unit, a stack of 496 numbers
--- of zero for each of position and vector, other slots and registers zero, mode 0, no list open."
+-- of zero for each of position and vector, other slots and registers zero, mode 0, no list open."; T-02: "Slots become
+-- 32", so 512 numbers (reading 38).
 use mathlib.Core.Bool.{Bool, false, cond, _&&_}
 use mathlib.Core.List.{List}
 use Prim.Native.Nat.{ℕ}
@@ -37,7 +38,7 @@ freshTransform =
     }
 
 abbrev pub freshStacks : Stacks
-freshStacks = record { positions = zeros 496; vectors = zeros 496 }
+freshStacks = record { positions = zeros 512; vectors = zeros 512 }
 
 abbrev noVertex : List ℤ
 noVertex = zeros vertexWidth

@@ -20,11 +20,12 @@ use Rattle.state.specs.List.{isList, listOf}
 use Rattle.state.specs.Fresh.{roomsAllowed}
 use Rattle.state.specs.Sizes.{colours}
 
--- "every number in the range given here" (reading 14): modes 0 to 3, "one level S from 0 to 31", "level 0 or 1"
+-- "every number in the range given here" (reading 14): modes 0 to 3, "level 0 or 1"; T-02: "the sound range of S 0 to
+-- 63"
 unfoldable pub soundTransform : Transform → Bool
 soundTransform t =
     leb (t .mode) 3
-    && leb (t .pair .level) 31
+    && leb (t .pair .level) 63
     && leb (t .projection .level) 1
     && leb (t .texture .level) 1
 

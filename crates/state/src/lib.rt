@@ -46,12 +46,12 @@ pub struct Transform {
     pub error: bool,
 }
 
-// The stacks of position and vector, 31 slots each. Slot k is the sixteen numbers from 16 * k on. Only the stack
+// The stacks of position and vector, 32 slots each. Slot k is the sixteen numbers from 16 * k on. Only the stack
 // commands touch them.
 #[repr(C)]
 pub struct Stacks {
-    pub positions: [i32; 496],
-    pub vectors: [i32; 496],
+    pub positions: [i32; 512],
+    pub vectors: [i32; 512],
 }
 
 // The vertex position.
@@ -274,8 +274,8 @@ impl Engine {
     {
         let transform = fresh_transform();
         let stacks = Stacks {
-            positions: [0; 496],
-            vectors: [0; 496],
+            positions: [0; 512],
+            vectors: [0; 512],
         };
         let geometry = fresh_geometry();
         let registers = Registers {
@@ -327,7 +327,7 @@ pub fn uses_pair(mode: u32) -> bool
 fn is_sound_transform(t: Transform) -> bool
     ensures { λ r. ⌜ r ≡ soundTransform t ⌝ }
 {
-    (t.mode <= 3) & (t.pair.level <= 31) & (t.projection.level <= 1) & (t.texture.level <= 1)
+    (t.mode <= 3) & (t.pair.level <= 63) & (t.projection.level <= 1) & (t.texture.level <= 1)
 }
 
 // Whether the number stands for a list.

@@ -135,7 +135,7 @@ module _ (c : tie.After-operation-of Inv-loop μ-loop) where
       → (m : Matrices) (g : Geometry) (vs : List ℤ) (ps : List ℕ) (clip : List ℤ) (clipped : Bool)
       → buffered (coreFrom m g) vs ps ≡ runOperation o (held turned) before-it
       → (clipped ≡ true → clip ≡ clipMatrix (m .transform .pair .position) (m .transform .projection .matrix))
-      → length (m .stacks .positions) ≡ 496 → length (m .stacks .vectors) ≡ 496
+      → length (m .stacks .positions) ≡ 512 → length (m .stacks .vectors) ≡ 512
       → (let a = at .before .before .before .before .before .before .args in
       Feeding (begins (at .before .before)) (a .vertices .now) (a .polygons .now) (a .log)
       (at .before .is-packed .result) (a .words .now)

@@ -11,6 +11,7 @@ mod programs;
 mod random;
 mod records;
 mod replay;
+mod stacks;
 mod tally;
 mod twin;
 mod whole;
@@ -53,10 +54,10 @@ fn main() -> ExitCode {
         return ExitCode::FAILURE;
     };
     let mut tally = Tally::default();
-    let fixed = match extremes::run(&mut tally) {
+    let fixed = match fixed_cases(&mut tally) {
         Ok(count) => count,
         Err(text) => {
-            println!("extremes: {text}");
+            println!("fixed: {text}");
             return ExitCode::FAILURE;
         }
     };
@@ -77,6 +78,11 @@ fn main() -> ExitCode {
     }
     println!("compare: {fixed} fixed and {cases} random cases agree");
     ExitCode::SUCCESS
+}
+
+/// Runs the fixed cases; how many there are.
+fn fixed_cases(tally: &mut Tally) -> Result<usize, String> {
+    Ok(extremes::run(tally)? + stacks::run(tally)?)
 }
 
 /// The kind of a case, by the shares of the kinds.

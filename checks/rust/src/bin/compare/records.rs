@@ -38,7 +38,7 @@ fn fill_transform(random: &mut Random, record: &mut Record) {
     let transform = &mut record.core.registers.transform;
     transform.pair.position = matrix(random);
     transform.pair.vector = matrix(random);
-    transform.pair.level = random.pick(&[0, 1, 2, 15, 29, 30, 31]);
+    transform.pair.level = random.pick(&[0, 1, 2, 15, 29, 30, 31, 32, 33, 47, 61, 62, 63]);
     for single in [&mut transform.projection, &mut transform.texture] {
         single.matrix = matrix(random);
         single.slot = matrix(random);
@@ -145,7 +145,7 @@ fn held(random: &mut Random, command: u8) -> usize {
 /// The ways to make a sound record unsound.
 pub const FAULTS: [fn(&mut Random, &mut Record); 24] = [
     |random, record| record.core.registers.transform.mode = past_word(random, 3),
-    |random, record| record.core.registers.transform.pair.level = past(random, 31),
+    |random, record| record.core.registers.transform.pair.level = past(random, 63),
     |random, record| record.core.registers.transform.projection.level = past(random, 1),
     |random, record| record.core.registers.transform.texture.level = past(random, 1),
     |random, record| record.core.registers.geometry.colour = past_word(random, 0x7FFF),
