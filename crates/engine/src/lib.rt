@@ -49,8 +49,8 @@ fn place_of(number: u32, taken: usize) -> usize
     if number == 0 { 0 } else { taken }
 }
 
-// Words as they are, or as the port writes of a log, in one call.
-fn feed_as(
+// Words as they are, or as the port writes of a log, in one call. For the crates above this one.
+pub fn feed_as(
     log: bool,
     e: Engine,
     words: &[u32],

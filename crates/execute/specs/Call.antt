@@ -69,5 +69,5 @@ abbrev pub writesReply : Machine (Buffered Core) → List Write → Fed (Buffere
 writesReply = writesCall engineRules
 
 -- words as they are, or as the port writes of a log
-unfoldable pub feedAs : Bool → Machine (Buffered Core) → List ℕ → Fed (Buffered Core)
+abbrev pub feedAs : Bool → Machine (Buffered Core) → List ℕ → Fed (Buffered Core)
 feedAs log m ws = cond log (writesReply m (writes ws)) (wordsReply m ws)

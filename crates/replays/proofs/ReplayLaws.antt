@@ -34,7 +34,6 @@ use Rattle.listing.proofs.PutLaws.{reported}
 use Rattle.replays.specs.Replay.{refusalText, ran, replay, Reports}
 
 pub run-taken : (log : Bool) (m : Machine (Buffered Core)) (ws : List ℕ) → feedAs log m ws .taken ≤ length ws
-unfolding feedAs
 run-taken true m ws = omega (arith, list-within engineRules portStep m (writes ws), length-writes ws)
 run-taken false m ws = list-within engineRules wordStep m ws
 
@@ -60,7 +59,6 @@ pub run-kept : (log : Bool) (e : Engine) (vertices : List ℤ) (polygons : List 
     → (ws : List ℕ) (r : ListAnswer) (vs : List ℤ) (ps : List ℕ)
     → fedOf r vs ps ≡ feedAs log (machineOf e vertices polygons) ws
     → RunKept e vertices polygons r vs ps (length ws)
-unfolding feedAs
 run-kept true e vertices polygons h ws r vs ps told =
     run-kept-by e vertices polygons r vs ps (length ws)
     (list-kept e vertices polygons h portStep (kept-by-port e vertices polygons) (writes ws) r vs ps told)

@@ -12,8 +12,7 @@ ghost use Rattle.execute.specs.Call.{machineOf, fedOf, feedAs};
 ghost use Rattle.listing.specs.Buffer.{Puts};
 ghost use Rattle.replays.specs.Arguments.{isDigit, sourceOf, roomOf};
 ghost use Rattle.replays.specs.Replay.{refusalText, fedText, replay, replayAs, Reports};
-use engine::feed_words;
-use engine::feed_writes;
+use engine::feed_as;
 use listing::put_bytes;
 use listing::put_number_line;
 use listing::put_refused;
@@ -112,23 +111,6 @@ fn put_fed(text: &mut [u8], fed: ListAnswer, vertices: &[i32], polygons: &[u32])
     put_engine(text, engine, fed.engine, vertices, polygons)
 }
 
-// A list, or the port writes of a log, in one call.
-fn feed_input(
-    log: bool,
-    e: Engine,
-    words: &[u32],
-    vertices: &mut [i32],
-    polygons: &mut [u32],
-) -> ListAnswer
-    ensures { λ r. ⌜ fedOf r (now (vertices .exit)) (now (polygons .exit))
-        ≡ feedAs log (machineOf e (now (vertices .entry)) (now (polygons .entry))) (now (words .entry)) ⌝ }
-{
-    if log {
-        return feed_writes(e, words, &mut *vertices, &mut *polygons);
-    }
-    feed_words(e, words, &mut *vertices, &mut *polygons)
-}
-
 // A run, and its report.
 fn put_run(
     text: &mut [u8],
@@ -152,7 +134,7 @@ fn put_run(
         .left .state .polygons ⌝ }
     ensures { λ r. ⌜ r ≤ 433649 ⌝ }
 {
-    let fed = feed_input(log, e, words, &mut *vertices, &mut *polygons);
+    let fed = feed_as(log, e, words, &mut *vertices, &mut *polygons);
     put_fed(text, fed, vertices, polygons)
 }
 

@@ -2,7 +2,6 @@
 use borrow.Author.Needs.{needs}
 use Rattle.stream.specs.Command.{write}
 use Rattle.stream.specs.Step.{portStep}
-use Rattle.execute.specs.Call.{feedAs}
 use Rattle.engine.proofs.OneItem.{one-reply, one-given-back}
 use Rattle.engine.proofs.port_write.Statement.{statement}
 use Rattle.engine.proofs.port_write.Tie as tie
@@ -20,7 +19,6 @@ same-length-2 : tie.Need-same-length-2
 same-length-2 c = search needs
 
 returns : tie.Need-returns
-unfolding feedAs
 returns c =
     let a = c .before .before .before .before .before .before .before .before .before .args in
     let call = c .before .before .before .feed-items in (

@@ -1,7 +1,6 @@
 -- `engine::word` meets its contract.
 use borrow.Author.Needs.{needs}
 use Rattle.stream.specs.Step.{wordStep}
-use Rattle.execute.specs.Call.{feedAs}
 use Rattle.engine.proofs.OneItem.{one-reply, one-given-back}
 use Rattle.engine.proofs.word.Statement.{statement}
 use Rattle.engine.proofs.word.Tie as tie
@@ -19,7 +18,6 @@ same-length-2 : tie.Need-same-length-2
 same-length-2 c = search needs
 
 returns : tie.Need-returns
-unfolding feedAs
 returns c =
     let a = c .before .before .before .before .before .before .before .before .before .args in
     let call = c .before .before .before .feed-items in (

@@ -11,17 +11,17 @@ use Rattle.replays.proofs.put_run.Statement.{statement}
 use Rattle.replays.proofs.put_run.Tie as tie
 
 -- what the run left
-kept : (c : tie.After-feed-input) → let a = c .before .before .before .before .before .before .args in
-    RunKept (a .e) (a .vertices .now) (a .polygons .now) (c .feed-input .result) (c .feed-input .last .1 .1 .1 .0)
-    (c .feed-input .last .1 .1 .1 .1 .0) (length (a .words .now))
+kept : (c : tie.After-feed-as) → let a = c .before .before .before .before .before .before .args in
+    RunKept (a .e) (a .vertices .now) (a .polygons .now) (c .feed-as .result) (c .feed-as .last .1 .1 .1 .0)
+    (c .feed-as .last .1 .1 .1 .1 .0) (length (a .words .now))
 kept c =
     let start = c .before .before .before .before .before .before in
     let a = start .args in
     run-kept (a .log) (a .e) (a .vertices .now) (a .polygons .now) (start .pre .0 .0) (a .words .now)
-    (c .feed-input .result) _ _ (c .feed-input .ensures)
+    (c .feed-as .result) _ _ (c .feed-as .ensures .0)
 
-feed-input-requires : tie.Need-feed-input-requires
-feed-input-requires c κs = search needs
+feed-as-requires : tie.Need-feed-as-requires
+feed-as-requires c κs = search needs
 
 put-fed-requires : tie.Need-put-fed-requires
 put-fed-requires c κs =
@@ -45,7 +45,7 @@ returns : tie.Need-returns
 returns c =
     let put = c .before .before in
     let fed = put .before .before .before .before .before .before .before in
-    let told = fed .feed-input .ensures in (
+    let told = fed .feed-as .ensures .0 in (
       rw told at (put .put-fed .ensures .0),
       (
         ap (λ (f : Fed (Buffered Core)). f .left .state .vertices) told,
@@ -56,4 +56,4 @@ returns c =
 pub put-run-spec : {M : Type 1} → statement M
 put-run-spec =
     tie.close
-    (tie.spec feed-input-requires put-fed-requires same-length same-length-2 same-length-3 returns)
+    (tie.spec feed-as-requires put-fed-requires same-length same-length-2 same-length-3 returns)
