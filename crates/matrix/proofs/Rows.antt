@@ -1,19 +1,20 @@
--- Rows of a product by a row that has one number only: what a scale and a translation do to a matrix.
+-- Entries with fewer than four products: rows that have one number only, which a scale and a translation have, and rows
+-- whose fourth number is 0 or 1.0.
 use mathlib.Core.Bool.{cond}
 use mathlib.Core.List.{List, [], _∷_, map}
-use mathlib.Core.Path.{_≡_, _∙_, ap}
-use Prim.Native.Nat.{ℕ, zero, suc, _+_, _-_, _*_, _^_, _<_}
+use mathlib.Core.Path.{_≡_, sym, _∙_, ap}
+use Prim.Native.Nat.{ℕ, zero, suc, _+_, _-_, _*_, _/_, _%_, _^_, _<_}
 use native.Mathlib.Nat.{zero-mul, mul-comm, mul-suc, add-zero, zero-add, mul-div-cancel-left}
 use native.Mathlib.Omega.{arith}
 use lib.Arith.{digits-div}
-use lib.Dec.{eqb}
+use lib.Dec.{eqb, lit≤}
 use lib.IntN.{ℤ, pos, negsuc, negℤ, subℕ, _+ℤ_, _*ℤ_}
 use lib.Pow.{pow-pos}
 use lib.Signed.{mag}
 use borrow.Author.Tests.{lt-ltb}
 use mir.Syntax.{w32}
-use Rattle.lowbits.specs.Bits.{floorBits, signedLow}
-use Rattle.lowbits.proofs.Laws.{signed-low}
+use Rattle.lowbits.specs.Bits.{floorBits, lowBits, asSigned, signedLow}
+use Rattle.lowbits.proofs.Laws.{low-add, low-floor, low-low, low-floor-plus, signed-low, signed-of-shifted}
 use Rattle.lowbits.proofs.Read.{in-signed}
 use Rattle.matrix.specs.Matrix.{rounded, entry, at, column, rowBy, one}
 
@@ -49,6 +50,30 @@ floor-times j (negsuc n) =
 -- 1.0 leaves a number of 32 bits
 rounded-one : (z : ℤ) → mag z < 2 ^ 31 → rounded (one *ℤ z) ≡ z
 rounded-one z f = ap (signedLow 32) (floor-times 12 z) ∙ signed-low 32 z (in-signed w32 z (record { sfits = f }))
+
+-- ---- from the 48 low bits of a sum
+
+-- a sum, rounded
+pub by-sum : (z : ℤ) {n : ℕ} → n ≡ lowBits 48 z → signedLow 32 (pos (n / 2 ^ 12)) ≡ rounded z
+by-sum z e = ap (λ (n : ℕ). signedLow 32 (pos (n / 2 ^ 12))) e ∙ signed-of-shifted 48 12 32 z (lit≤ tt)
+
+-- and 1.0 times d: d needs no product
+pub by-sum-plus : (z d : ℤ) {n : ℕ} → n ≡ lowBits 48 z → signedLow 32 (pos (n / 2 ^ 12) +ℤ d) ≡ rounded (z +ℤ one *ℤ d)
+unfolding lowBits
+by-sum-plus z d e =
+    ap (λ (n : ℕ). signedLow 32 (pos (n / 2 ^ 12) +ℤ d)) e
+    ∙ ap (asSigned 32)
+    (low-add 32 (pos (lowBits 48 z / 2 ^ 12)) d
+    ∙ ap (λ (n : ℕ). (n + lowBits 32 d) % 2 ^ 32)
+    (ap (λ (n : ℕ). n % 2 ^ 32) (sym (low-floor 36 12 z)) ∙ low-low 4 32 (floorBits 12 z))
+    ∙ sym (low-add 32 (floorBits 12 z) d)
+    ∙ sym (low-floor-plus 32 12 z d))
+
+-- the fourth number 0: three products
+pub entry-three : (x y z a b c d : ℤ) → rounded (x *ℤ a +ℤ y *ℤ b +ℤ z *ℤ c) ≡ entry x y z (pos 0) a b c d
+unfolding entry
+entry-three x y z a b c d =
+    ap rounded (sym (ap (λ (v : ℤ). x *ℤ a +ℤ y *ℤ b +ℤ z *ℤ c +ℤ v) (times-zero d) ∙ plus-zero _))
 
 -- ---- rows
 

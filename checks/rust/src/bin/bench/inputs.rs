@@ -30,6 +30,16 @@ const KINDS: [Kind; 6] = [
     Kind { name: "many parameters", first: &[(0x10, 1)], repeated: &[0x34, 0x16, 0x18, 0x17, 0x70] },
 ];
 
+/// Commands that multiply, each alone: on the position matrix, and vertices in a triangle strip.
+const ALONE: [Kind; 6] = [
+    Kind { name: "18h only", first: &[(0x10, 1)], repeated: &[0x18] },
+    Kind { name: "19h only", first: &[(0x10, 1)], repeated: &[0x19] },
+    Kind { name: "1Ah only", first: &[(0x10, 1)], repeated: &[0x1A] },
+    Kind { name: "1Bh only", first: &[(0x10, 1)], repeated: &[0x1B] },
+    Kind { name: "1Ch only", first: &[(0x10, 1)], repeated: &[0x1C] },
+    Kind { name: "24h only", first: &[(0x40, 2)], repeated: &[0x24] },
+];
+
 /// A log and its packed list, as bytes.
 pub struct Sample {
     pub name: &'static str,
@@ -38,7 +48,15 @@ pub struct Sample {
 }
 
 pub fn samples() -> Vec<Sample> {
-    KINDS.iter().enumerate().map(|(k, kind)| sample(kind, &mut Random::new(1, k as u64))).collect()
+    samples_of(&KINDS)
+}
+
+pub fn alone() -> Vec<Sample> {
+    samples_of(&ALONE)
+}
+
+fn samples_of(kinds: &[Kind]) -> Vec<Sample> {
+    kinds.iter().enumerate().map(|(k, kind)| sample(kind, &mut Random::new(1, k as u64))).collect()
 }
 
 fn sample(kind: &Kind, random: &mut Random) -> Sample {

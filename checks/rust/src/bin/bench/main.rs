@@ -44,6 +44,9 @@ fn main() {
         single::time(&sample);
         feeding::time(&sample);
     }
+    for sample in inputs::alone() {
+        feeding::time(&sample);
+    }
 }
 
 /// Times both in turn, so that what else the machine does falls on both, and prints a line.
