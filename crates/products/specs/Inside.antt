@@ -10,6 +10,7 @@ use Rattle.products.specs.declared.Sum.{Sum}
 abbrev pub number : ℕ → ℤ
 number n = pos n +ℤ negsuc (2 ^ 31 - 1)
 
+-- and of an array
 abbrev pub numbers : List ℕ → List ℤ
 numbers l = map number l
 

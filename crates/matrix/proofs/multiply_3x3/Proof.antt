@@ -1,14 +1,13 @@
 -- `matrix::multiply_3x3` meets its contract: row 3 of the matrix is the unit matrix's.
-use mathlib.Core.List.{[], _∷_, _++_, map}
-use mathlib.Core.Path.{_≡_, sym, _∙_}
-use Prim.Native.Nat.{ℕ, _+_, _*_}
+use mathlib.Core.List.{[], _∷_, _++_}
+use mathlib.Core.Path.{sym, _∙_}
 use lib.Dec.{lit<}
 use lib.IntN.{pos}
 use mir.Syntax.{w32}
 use Rattle.lowbits.proofs.Elements.{element-fits}
 use Rattle.lowbits.proofs.Read.{again}
-use Rattle.products.specs.Inside.{number}
-use Rattle.matrix.specs.Matrix.{at, column, rowBy, mul, matrix3x3}
+use Rattle.matrix.specs.Matrix.{at, rowBy, mul, matrix3x3}
+use Rattle.matrix.proofs.Arrays.{three-of}
 use Rattle.matrix.proofs.Rows.{row-one}
 use borrow.Author.Needs.{needs}
 use Rattle.matrix.proofs.multiply_3x3.Statement.{statement}
@@ -92,12 +91,7 @@ returns c =
     let p = s .args .p in
     let k = s .args .t2 in
     let e = o1 .offsets .ensures in
-    let f = o2 .offsets2 .ensures in
-    let three : (i j : ℕ)
-    → column (at (map number (o1 .offsets .result)) (3 * i)) (at (map number (o1 .offsets .result)) (3 * i + 1))
-    (at (map number (o1 .offsets .result)) (3 * i + 2)) (pos 0) (map number (o2 .offsets2 .result)) j
-    ≡ column (at p (3 * i)) (at p (3 * i + 1)) (at p (3 * i + 2)) (pos 0) k j =
-    λ i j t. column (at (e t) (3 * i)) (at (e t) (3 * i + 1)) (at (e t) (3 * i + 2)) (pos 0) (f t) j in
+    let three = three-of e (o2 .offsets2 .ensures) in
     let r = element-fits w32 k _ (s .good .1 .0 .1 .1) in
     (λ t. (again w32 _ (e0 .three-of .ok) ∙ e0 .three-of .ensures ∙ three 0 0) t
     ∷ (again w32 _ (e1 .three-of2 .ok) ∙ e1 .three-of2 .ensures ∙ three 0 1) t

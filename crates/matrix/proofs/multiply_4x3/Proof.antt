@@ -1,17 +1,13 @@
 -- `matrix::multiply_4x3` meets its contract.
-use mathlib.Core.List.{[], _∷_, map}
-use mathlib.Core.Path.{_≡_, sym, _∙_}
-use Prim.Native.Nat.{ℕ, _+_, _*_, _^_, _<_}
+use mathlib.Core.List.{[], _∷_}
+use mathlib.Core.Path.{sym, _∙_}
+use Prim.Native.Nat.{_<_}
 use native.Mathlib.Omega.{arith}
-use lib.IntN.{pos}
-use lib.ListN.{length, getD}
-use lib.Signed.{mag}
+use lib.ListN.{length}
 use mir.Syntax.{w32}
-use mir.Val.{toZ, ofZ}
 use Rattle.lowbits.proofs.Read.{again}
-use Rattle.products.specs.Inside.{number}
-use Rattle.matrix.specs.Matrix.{entry, at, column, rowBy, mul, one, matrix4x3}
-use Rattle.matrix.proofs.Arrays.{at-number}
+use Rattle.matrix.specs.Matrix.{at, rowBy, mul, matrix4x3}
+use Rattle.matrix.proofs.Arrays.{at-number, three-of, moved-by}
 use borrow.Author.Needs.{needs}
 use Rattle.matrix.proofs.multiply_4x3.Statement.{statement}
 use Rattle.matrix.proofs.multiply_4x3.Tie as tie
@@ -122,25 +118,14 @@ returns c =
     let p = s .args .p in
     let k = s .args .t2 in
     let e = o1 .offsets .ensures in
-    let f = o2 .offsets2 .ensures in
-    let three : (i j : ℕ)
-    → column (at (map number (o1 .offsets .result)) (3 * i)) (at (map number (o1 .offsets .result)) (3 * i + 1))
-    (at (map number (o1 .offsets .result)) (3 * i + 2)) (pos 0) (map number (o2 .offsets2 .result)) j
-    ≡ column (at p (3 * i)) (at p (3 * i + 1)) (at p (3 * i + 2)) (pos 0) k j =
-    λ i j t. column (at (e t) (3 * i)) (at (e t) (3 * i + 1)) (at (e t) (3 * i + 2)) (pos 0) (f t) j in
+    let three = three-of e (o2 .offsets2 .ensures) in
     let x = o1 .offsets .result in
-    let a = o2 .offsets2 .result in
     let x11 : 11 < length x = long o2 in
     let x9 : 9 < length x = omega arith in
     let x10 : 10 < length x = omega arith in
-    let moved : (j : ℕ) → mag (at k (12 + j)) < 2 ^ 31
-    → entry (number (getD x 9 0)) (number (getD x 10 0)) (number (getD x 11 0)) one (at (map number a) j)
-    (at (map number a) (4 + j)) (at (map number a) (8 + j)) (toZ w32 (ofZ w32 (at k (12 + j))))
-    ≡ column (at p 9) (at p 10) (at p 11) one k j =
-    λ j h. (λ t. entry (sym (at-number x 9 x9) t) (sym (at-number x 10 x10) t) (sym (at-number x 11 x11) t) one
-    (at (map number a) j) (at (map number a) (4 + j)) (at (map number a) (8 + j)) (again w32 (at k (12 + j)) h t))
-    ∙ (λ t. entry (at (e t) 9) (at (e t) 10) (at (e t) 11) one (at (f t) j) (at (f t) (4 + j)) (at (f t) (8 + j))
-    (at k (12 + j))) in
+    let moved =
+    moved-by (sym (at-number x 9 x9) ∙ (λ t. at (e t) 9)) (sym (at-number x 10 x10) ∙ (λ t. at (e t) 10))
+    (sym (at-number x 11 x11) ∙ (λ t. at (e t) 11)) (o2 .offsets2 .ensures) in
     λ t. (again w32 _ (e0 .three-of .ok) ∙ e0 .three-of .ensures ∙ three 0 0) t
     ∷ (again w32 _ (e1 .three-of2 .ok) ∙ e1 .three-of2 .ensures ∙ three 0 1) t
     ∷ (again w32 _ (e2 .three-of3 .ok) ∙ e2 .three-of3 .ensures ∙ three 0 2) t
