@@ -70,23 +70,23 @@ parameters_below (c ∷ cs) h w = by (takes_none c.byte) refl (λ k. parameters_
 -- a command word: one to four bytes
 queue_below : (g : List Command) → AllComplete g → length g ≤ 4 → word_of (queue_of g) < 2 ^ 32
 queue_below [] w n = omega arith
-queue_below (a ∷ []) w n = omega (arith, known-range a.byte w.0.is_Known)
+queue_below (a ∷ []) w n = omega (arith, known-range a.byte w.0.is_known)
 queue_below (a ∷ b ∷ []) w n =
-    omega (arith, known-range a.byte w.0.is_Known, known-range b.byte w.1.0.is_Known)
+    omega (arith, known-range a.byte w.0.is_known, known-range b.byte w.1.0.is_known)
 queue_below (a ∷ b ∷ c ∷ []) w n =
     omega (
       arith,
-      known-range a.byte w.0.is_Known,
-      known-range b.byte w.1.0.is_Known,
-      known-range c.byte w.1.1.0.is_Known,
+      known-range a.byte w.0.is_known,
+      known-range b.byte w.1.0.is_known,
+      known-range c.byte w.1.1.0.is_known,
     )
 queue_below (a ∷ b ∷ c ∷ d ∷ []) w n =
     omega (
       arith,
-      known-range a.byte w.0.is_Known,
-      known-range b.byte w.1.0.is_Known,
-      known-range c.byte w.1.1.0.is_Known,
-      known-range d.byte w.1.1.1.0.is_Known,
+      known-range a.byte w.0.is_known,
+      known-range b.byte w.1.0.is_known,
+      known-range c.byte w.1.1.0.is_known,
+      known-range d.byte w.1.1.1.0.is_known,
     )
 queue_below (a ∷ b ∷ c ∷ d ∷ e ∷ g) w n = absurd (omega (arith, n))
 
