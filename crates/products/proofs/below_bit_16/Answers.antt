@@ -5,6 +5,6 @@ use Rattle.products.proofs.below_bit_16.Goals as goal
 
 pub returns : goal.returns
 returns c =
-    c.low_half_lem.ensures
+    c.low_half.ensures
     ∙ ap (λ (n : ℕ). n % 2 ^ 16) (c.bits32.ensures ∙ ap (low_bits 32) (to_z-of_z c.ranges.a))
     ∙ low-low 16 16 c.args.a

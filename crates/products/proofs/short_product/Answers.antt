@@ -22,4 +22,4 @@ overflow_mul-result c =
     })
 
 pub returns : goal.returns
-returns c = to_z-of_z (mul-result c) ∙ read c
+returns c = to_z-of_z (overflow_mul-result c) ∙ read c
