@@ -7,17 +7,14 @@ use Rattle.turns.proofs.hold_words.Goals as goal
 
 pub returns-then-many-eq1 : goal.returns-then-many-eq1
 returns-then-many-eq1 c =
-    let a = c.args in
-    rw c.if-many-eq1.true (held_one (omega arith) 0 (get_or a.words.now a.i 0) refl)
+    rw c.if-many-eq1.true (held_one (omega arith) 0 (get_or c.args.words.now c.args.i 0) refl)
 
 pub loop-j-init : goal.loop-j-init
 loop-j-init c = (held_none, omega arith)
 
 pub loop-j-preserved : goal.loop-j-preserved
 loop-j-preserved c =
-    let a = c.args in
-    let l = c.loop-j in
-    (held_more l.invariant.0 (omega arith) 0 (get_or a.words.now (a.i + l.j) 0) refl, omega arith)
+    (held_more c.loop-j.invariant.0 (omega arith) 0 (get_or c.args.words.now (c.args.i + c.loop-j.j) 0) refl, omega arith)
 
 pub returns : goal.returns
 returns c = held_as c.loop-j.invariant.0 (omega arith)
