@@ -16,7 +16,7 @@ use matrix::Matrix;
 
 // Position and vector: the current matrices, and the level that their two stacks share.
 #[repr(C)]
-#[derive(Drop)]
+#[derive(Clone, Copy)]
 pub struct Pair {
     pub position: [i32; 16],
     pub vector: [i32; 16],
@@ -25,7 +25,7 @@ pub struct Pair {
 
 // Projection or texture: the current matrix, and its stack of one slot.
 #[repr(C)]
-#[derive(Drop)]
+#[derive(Clone, Copy)]
 pub struct Single {
     pub matrix: [i32; 16],
     pub slot: [i32; 16],
@@ -34,7 +34,7 @@ pub struct Single {
 
 // The matrices without the two long stacks. `mode` is what 10h set, `error` the error flag of the stacks.
 #[repr(C)]
-#[derive(Drop)]
+#[derive(Clone, Copy)]
 pub struct Transform {
     pub pair: Pair,
     pub projection: Single,
@@ -46,7 +46,7 @@ pub struct Transform {
 // The stacks of position and vector, 32 slots each. Slot k is the sixteen numbers from 16 * k on. Only the stack
 // commands touch them.
 #[repr(C)]
-#[derive(Drop)]
+#[derive(Clone, Copy)]
 pub struct Stacks {
     pub positions: [i32; 512],
     pub vectors: [i32; 512],
@@ -54,7 +54,7 @@ pub struct Stacks {
 
 // The vertex position.
 #[repr(C)]
-#[derive(Drop)]
+#[derive(Clone, Copy)]
 pub struct Coordinates {
     pub x: i16,
     pub y: i16,
@@ -77,7 +77,7 @@ pub type VertexRecord = [i32; VERTEX_WIDTH];
 
 // The list that 40h opened. A triangle strip keeps whether its next k is odd; for every other kind, and when closed,
 // this reads even.
-#[derive(Drop)]
+#[derive(Clone, Copy)]
 pub enum OpenList {
     Closed,
     Triangles,
@@ -89,7 +89,7 @@ pub enum OpenList {
 // The open list by its number (`list_of`), and the vertices that wait for its next polygon: the first `count` of three.
 // Those past the count are free: nothing reads them.
 #[repr(C)]
-#[derive(Drop)]
+#[derive(Clone, Copy)]
 pub struct Waiting {
     pub list: u32,
     pub first: VertexRecord,
@@ -100,7 +100,7 @@ pub struct Waiting {
 
 // Numbers of vertices and polygons.
 #[repr(C)]
-#[derive(Drop)]
+#[derive(Clone, Copy)]
 pub struct Counts {
     pub vertices: usize,
     pub polygons: usize,
@@ -109,7 +109,7 @@ pub struct Counts {
 // `given` are the attributes last given by 29h, `attributes` those in force; `used` says how many records the caller's
 // buffers hold, `rooms` (document 01's word for the capacities) how many they may hold.
 #[repr(C)]
-#[derive(Drop)]
+#[derive(Clone, Copy)]
 pub struct Geometry {
     pub given: u32,
     pub attributes: u32,
@@ -123,7 +123,7 @@ pub struct Geometry {
 
 // All that a command can touch but the two long stacks.
 #[repr(C)]
-#[derive(Drop)]
+#[derive(Clone, Copy)]
 pub struct Registers {
     pub transform: Transform,
     pub geometry: Geometry,
@@ -131,7 +131,7 @@ pub struct Registers {
 
 // What the two sides of demand 3 are compared in, and the rooms.
 #[repr(C)]
-#[derive(Drop)]
+#[derive(Clone, Copy)]
 pub struct Core {
     pub registers: Registers,
     pub stacks: Stacks,
@@ -142,7 +142,7 @@ pub struct Core {
 // pending: the first `count` of 32. Those past the count are free: no call reads what another left there. `dummy`: the
 // dummy word is due; `port`: the port command that is pending, 0 for none.
 #[repr(C)]
-#[derive(Drop)]
+#[derive(Clone, Copy)]
 pub struct Stream {
     pub queue: u32,
     pub held: [u32; 32],
@@ -152,7 +152,7 @@ pub struct Stream {
 }
 
 #[repr(C)]
-#[derive(Drop)]
+#[derive(Clone, Copy)]
 pub struct Engine {
     pub core: Core,
     pub stream: Stream,
@@ -160,7 +160,7 @@ pub struct Engine {
 
 // What a call that gives an engine answers: 0, or the number that it refuses with; a place; the engine.
 #[repr(C)]
-#[derive(Drop)]
+#[derive(Clone, Copy)]
 pub struct Answer {
     pub number: u32,
     pub place: u32,
@@ -170,7 +170,7 @@ pub struct Answer {
 // What a call of many words answers: 0, or the number that the first refused word is refused with; its index; how many
 // were taken; the engine after those.
 #[repr(C)]
-#[derive(Drop)]
+#[derive(Clone, Copy)]
 pub struct ListAnswer {
     pub number: u32,
     pub place: usize,
