@@ -31,7 +31,7 @@ pub extern "C" fn probe_feed_writes(
 
 // An engine, and a number behind it, where a C struct of the same members has it.
 #[repr(C)]
-#[derive(Drop)]
+#[derive(Clone, Copy)]
 pub struct Marked {
     pub engine: Engine,
     pub after: u32,

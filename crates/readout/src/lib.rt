@@ -23,7 +23,7 @@ use state::{
 };
 
 // What lines are put for: the vertices or the polygons of a buffer.
-#[derive(Drop)]
+#[derive(Clone, Copy)]
 enum Records {
     Vertices,
     Polygons,
