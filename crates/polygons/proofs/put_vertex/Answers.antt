@@ -4,8 +4,9 @@ use native.Mathlib.Omega.{arith}
 use lib.IntN.{pos}
 use lib.ListN.{length}
 use lib.Seq.{sets, take_all}
-use borrow.Author.Rules.{sfits_of, rules}
+use borrow.Author.Rules.{sfits_of}
 use mir.Facts.{to_z-of_z}
+use mir.Syntax.{w32}
 use Rattle.state.specs.Sizes.{vertex_width}
 use Rattle.polygons.specs.Buffers.{with_vertex}
 use Rattle.polygons.proofs.Stores.{turn}
@@ -21,7 +22,7 @@ loop-i-preserved c =
       search rules,
       search rules,
       turn c.args.vertices.now (vertex_width * c.args.n) c.args.v c.loop-i.i
-          (pos 0) _ _ c.loop-i.invariant.2 (to_z-of_z (sfits_of c.vertices-1.given)) (omega arith),
+          (pos 0) _ _ c.loop-i.invariant.2 (to_z-of_z {w = w32} (sfits_of c.vertices-1.given)) (omega arith),
     )
 
 pub returns : goal.returns
