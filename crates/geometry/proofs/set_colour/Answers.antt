@@ -1,0 +1,5 @@
+use mathlib.Core.Path.{refl}
+use Rattle.geometry.proofs.set_colour.Goals as goal
+
+pub returns : goal.returns
+returns c = refl
