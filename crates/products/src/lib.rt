@@ -1,5 +1,7 @@
 // Sums of products of 32-bit numbers, from 16-bit halves: document 02, T-03. Every product of matrix or vertex numbers
 // is one of the two products here, whose factors have 16 bits by their types or by what is required (checks/products).
+#![tactic(auto)]
+
 ghost use Rattle.std.specs.Prelude.{◌≡◌, ◌+◌, ◌*◌, ◌/◌, ◌%◌, ◌^◌, ◌<◌, ◌≤◌, pos, ◌+ℤ◌, ◌*ℤ◌, unsigned_abs};
 ghost use Rattle.lowbits.specs.Bits.{floor_bits, low_bits, signed_low};
 ghost use Rattle.products.specs.Inside.{number, sum_of};

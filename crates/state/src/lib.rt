@@ -1,5 +1,7 @@
 // The engine's record, by value: the core (all that demand 3 compares, and the rooms) and the command stream. Here are
 // the fresh engine, the start, and the test that a record is sound. C has the same record.
+#![tactic(auto)]
+
 ghost use Rattle.std.specs.Prelude.{◌≡◌, true, cond, ◌&&◌, eqb};
 ghost use Rattle.commands.specs.Commands.{parameter_table};
 ghost use Rattle.stream.specs.Pending.{packed_pending};

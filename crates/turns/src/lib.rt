@@ -1,5 +1,7 @@
 // The command stream by turns: the next command of packed words or of a log, with those of its parameters that are
 // there. Document 01, "Commands and their parameters". A feed runs the commands.
+#![tactic(auto)]
+
 ghost use Rattle.std.specs.Prelude.{◌≡◌, true, false, [], ◌*◌, ◌/◌, ◌%◌, ◌+◌, ◌≤◌, ◌<◌, length, get_or};
 ghost use Rattle.commands.specs.Commands.{known, parameter_table};
 ghost use Rattle.stream.specs.Command.{write};

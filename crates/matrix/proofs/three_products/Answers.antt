@@ -27,10 +27,13 @@ returns c =
     let q = number c.args.y *ℤ number c.args.b in
     let r = number c.args.z *ℤ number c.args.c in
     let one = first p c.plus_product.ensures.result_value c.no_product.ensures.0 in
-    let two = wraps 48 p q c.plus_product-2.ensures.result_value one refl in record { result_value = wraps 48 (p +ℤ q) r c.plus_product-3.ensures.result_value two refl; lower_bound = omega (
+    let two = wraps 48 p q c.plus_product-2.ensures.result_value one refl in record {
+      result_value = wraps 48 (p +ℤ q) r c.plus_product-3.ensures.result_value two refl;
+      lower_bound = omega (
         arith,
         c.no_product.ensures.1,
         c.plus_product.ensures.lower_bound,
         c.plus_product-2.ensures.lower_bound,
         c.plus_product-3.ensures.lower_bound,
-      ) }
+      );
+    }

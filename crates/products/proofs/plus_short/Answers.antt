@@ -50,5 +50,8 @@ returns c =
     ∙ (λ t. (s.middle + (c.bits32.ensures ∙ ap (low_bits 32) upper) t
     + (c.bits32-2.ensures ∙ ap (low_bits 32) carried) t) % 2 ^ 32) in
     let low = c.below_bit_16-2.ensures ∙ ap (low_bits 16) lower in
-    let small = low-lt 16 (v.x *ℤ pos (low_bits 16 v.a)) in record { result_value = (λ t. held s.upper (middle t) (s.lower + low t) s.factors)
-          ∙ plus-short v.x v.a s.upper s.middle s.lower s.factors; lower_bound = omega (arith, low, small) }
+    let small = low-lt 16 (v.x *ℤ pos (low_bits 16 v.a)) in record {
+      result_value = (λ t. held s.upper (middle t) (s.lower + low t) s.factors)
+          ∙ plus-short v.x v.a s.upper s.middle s.lower s.factors;
+      lower_bound = omega (arith, low, small);
+    }

@@ -27,11 +27,10 @@ returns-then-lacks-eq0 c =
     (c.runs.ensures ∙ ap (λ (n : Begun). turn c.args.i n (c.args.b.queue % 256) 0 false) c.behind.ensures)
 
 pub hold_words-requires : goal.hold_words-requires
-hold_words-requires c =
-    (
-      omega (arith, c.requires.i_in_bounds.0),
-      omega (arith, few (goal.at.hold_words-requires c).After-count_in, c.count_in.ensures, count_small (c.args.b.queue % 256)),
-    )
+hold_words-requires c = (
+  omega (arith, c.requires.i_in_bounds.0),
+  omega (arith, few (goal.at.hold_words-requires c).After-count_in, c.count_in.ensures, count_small (c.args.b.queue % 256)),
+)
 
 pub returns-then-left-lacks : goal.returns-then-left-lacks
 returns-then-left-lacks c =
@@ -41,11 +40,10 @@ returns-then-left-lacks c =
     c.hold_words.ensures c.ends.ensures
 
 pub hold_words-requires-2 : goal.hold_words-requires-2
-hold_words-requires-2 c =
-    (
-      omega (arith, few (goal.at.hold_words-requires-2 c).After-count_in, c.requires.i_in_bounds.0, c.if-left-lacks.false),
-      omega (arith, few (goal.at.hold_words-requires-2 c).After-count_in, c.count_in.ensures, count_small (c.args.b.queue % 256)),
-    )
+hold_words-requires-2 c = (
+  omega (arith, few (goal.at.hold_words-requires-2 c).After-count_in, c.requires.i_in_bounds.0, c.if-left-lacks.false),
+  omega (arith, few (goal.at.hold_words-requires-2 c).After-count_in, c.count_in.ensures, count_small (c.args.b.queue % 256)),
+)
 
 pub returns : goal.returns
 returns c =

@@ -23,8 +23,11 @@ room : (c : Else-takes-eq0) → c.count_in-takes.result ≤ 32
 room c = omega (arith, c.count_in-takes.ensures, count_small c.args.byte)
 
 pub returns-then-takes-eq0 : goal.returns-then-takes-eq0
-returns-then-takes-eq0 c = record { turned = write-none c.requires.writable
-      (sym c.count_in-takes.ensures ∙ c.if-takes-eq0.true) c.runs.ensures; queue_value = same-packed c.runs.ensures }
+returns-then-takes-eq0 c = record {
+  turned = write-none c.requires.writable
+      (sym c.count_in-takes.ensures ∙ c.if-takes-eq0.true) c.runs.ensures;
+  queue_value = same-packed c.runs.ensures;
+}
 
 pub overflow_sub-lacks : goal.overflow_sub-lacks
 overflow_sub-lacks c = omega (arith, few c)
@@ -40,8 +43,11 @@ returns-then-lacks-eq1 c =
     let t = c.requires.writable in
     let there : c.args.i < length (writes c.args.log.now) = omega (arith, t.inside, length-writes c.args.log.now) in
     let one = held_one there (write 0 0) (get_or c.args.log.now (2 * c.args.i + 1) 0)
-    (write-is c.args.log.now c.args.i t.inside) in record { turned = write-last t (takes (goal.at.returns-then-lacks-eq1 c).Else-takes-eq0) 1 (omega arith) (omega (arith, t.inside)) one
-          (omega (arith, few (goal.at.returns-then-lacks-eq1 c).Else-takes-eq0, c.count_in-takes.ensures, c.if-lacks-eq1.true)) c.runs-then-lacks-eq1.ensures; queue_value = same-packed c.runs-then-lacks-eq1.ensures }
+    (write-is c.args.log.now c.args.i t.inside) in record {
+      turned = write-last t (takes (goal.at.returns-then-lacks-eq1 c).Else-takes-eq0) 1 (omega arith) (omega (arith, t.inside)) one
+          (omega (arith, few (goal.at.returns-then-lacks-eq1 c).Else-takes-eq0, c.count_in-takes.ensures, c.if-lacks-eq1.true)) c.runs-then-lacks-eq1.ensures;
+      queue_value = same-packed c.runs-then-lacks-eq1.ensures;
+    }
 
 pub hold_writes-many-requires : goal.hold_writes-many-requires
 hold_writes-many-requires c =
@@ -58,15 +64,21 @@ lacking c = omega (arith, c.hold_writes-many.ensures.lower_bound.1, c.least-most
 
 pub returns-then-many-lacks : goal.returns-then-many-lacks
 returns-then-many-lacks c =
-    record { turned = write-last c.requires.writable (takes (goal.at.returns-then-many-lacks c).Else-takes-eq0) c.hold_writes-many.result c.hold_writes-many.ensures.lower_bound.0
+    record {
+      turned = write-last c.requires.writable (takes (goal.at.returns-then-many-lacks c).Else-takes-eq0) c.hold_writes-many.result c.hold_writes-many.ensures.lower_bound.0
           (inside (goal.at.returns-then-many-lacks c).After-hold_writes-many)
           c.hold_writes-many.ensures.held
-          (omega (arith, few (goal.at.returns-then-many-lacks c).Else-takes-eq0, c.count_in-takes.ensures, c.if-many-lacks.true)) c.runs-then-many-lacks.ensures; queue_value = same-packed c.runs-then-many-lacks.ensures }
+          (omega (arith, few (goal.at.returns-then-many-lacks c).Else-takes-eq0, c.count_in-takes.ensures, c.if-many-lacks.true)) c.runs-then-many-lacks.ensures;
+      queue_value = same-packed c.runs-then-many-lacks.ensures;
+    }
 
 pub returns : goal.returns
 returns c =
-    record { turned = write-more c.requires.writable (takes (goal.at.returns c).Else-takes-eq0) c.hold_writes-many.result c.hold_writes-many.ensures.lower_bound.0
+    record {
+      turned = write-more c.requires.writable (takes (goal.at.returns c).Else-takes-eq0) c.hold_writes-many.result c.hold_writes-many.ensures.lower_bound.0
           (inside (goal.at.returns c).After-hold_writes-many)
           c.hold_writes-many.ensures.held
           (omega (arith, few (goal.at.returns c).Else-takes-eq0, c.count_in-takes.ensures, c.if-many-lacks.false, lacking (goal.at.returns c).After-hold_writes-many))
-          c.goes_on.ensures; queue_value = same-packed c.goes_on.ensures }
+          c.goes_on.ensures;
+      queue_value = same-packed c.goes_on.ensures;
+    }

@@ -15,30 +15,44 @@ inside c = omega (arith, c.if-log-i.false)
 
 pub returns-then-log-i : goal.returns-then-log-i
 returns-then-log-i c =
-    record { turned = write_ended _ c.args.log.now _ _ c.requires.fit.0 c.requires.b_value.0 c.requires.fit.1
-          c.if-log-i.true c.ends.ensures; queue_value = same-packed c.ends.ensures }
+    record {
+      turned = write_ended _ c.args.log.now _ _ c.requires.fit.0 c.requires.b_value.0 c.requires.fit.1
+          c.if-log-i.true c.ends.ensures;
+      queue_value = same-packed c.ends.ensures;
+    }
 
 pub returns-then-byte-eq0 : goal.returns-then-byte-eq0
 returns-then-byte-eq0 c =
-    record { turned = write_no_port _ c.args.log.now _ _ c.requires.fit.0 c.requires.b_value.0 (inside (goal.at.returns-then-byte-eq0 c).Else-log-i) _
-          c.command_at_in-byte.ensures c.if-byte-eq0.true c.ends-then-byte-eq0.ensures; queue_value = same-packed c.ends-then-byte-eq0.ensures }
+    record {
+      turned = write_no_port _ c.args.log.now _ _ c.requires.fit.0 c.requires.b_value.0 (inside (goal.at.returns-then-byte-eq0 c).Else-log-i) _
+          c.command_at_in-byte.ensures c.if-byte-eq0.true c.ends-then-byte-eq0.ensures;
+      queue_value = same-packed c.ends-then-byte-eq0.ensures;
+    }
 
 pub returns-then-packed : goal.returns-then-packed
 returns-then-packed c =
-    let fits : c.args.b.queue < 2 ^ 32 = search rules in record { turned = write-packed _ c.args.log.now _ _ c.requires.fit.0 c.requires.b_value.0 (inside (goal.at.returns-then-packed c).Else-log-i) _
+    let fits : c.args.b.queue < 2 ^ 32 = search rules in record {
+      turned = write-packed _ c.args.log.now _ _ c.requires.fit.0 c.requires.b_value.0 (inside (goal.at.returns-then-packed c).Else-log-i) _
           c.command_at_in-byte.ensures c.if-byte-eq0.false fits
-          (sym c.requires.b_value.1 ∙ c.if-packed.true) c.ends-then-packed.ensures; queue_value = same-packed c.ends-then-packed.ensures }
+          (sym c.requires.b_value.1 ∙ c.if-packed.true) c.ends-then-packed.ensures;
+      queue_value = same-packed c.ends-then-packed.ensures;
+    }
 
 pub returns-then-b-byte : goal.returns-then-b-byte
 returns-then-b-byte c =
-    let port = c.args.b.port in record { turned = write_other _ c.args.log.now _ _ c.requires.fit.0 c.requires.b_value.0 (inside (goal.at.returns-then-b-byte c).Else-log-i) _
+    let port = c.args.b.port in record {
+      turned = write_other _ c.args.log.now _ _ c.requires.fit.0 c.requires.b_value.0 (inside (goal.at.returns-then-b-byte c).Else-log-i) _
           c.command_at_in-byte.ensures c.if-byte-eq0.false
           (sym c.requires.b_value.1 ∙ c.if-packed.false)
-          (neither (eqb port 0) (eqb port c.command_at_in-byte.result) c.if-b-byte.true) c.ends-then-b-byte.ensures; queue_value = same-packed c.ends-then-b-byte.ensures }
+          (neither (eqb port 0) (eqb port c.command_at_in-byte.result) c.if-b-byte.true) c.ends-then-b-byte.ensures;
+      queue_value = same-packed c.ends-then-b-byte.ensures;
+    }
 
 pub values_turn-requires : goal.values_turn-requires
 values_turn-requires c =
-    let port = c.args.b.port in record { table_value = c.requires.table_value; writable = record {
+    let port = c.args.b.port in record {
+      table_value = c.requires.table_value;
+      writable = record {
         fit = c.requires.fit.0;
         inside = inside (goal.at.values_turn-requires c).Else-log-i;
         long = c.requires.fit.2;
@@ -46,4 +60,5 @@ values_turn-requires c =
         some = c.if-byte-eq0.false;
         free = sym c.requires.b_value.1 ∙ c.if-packed.false;
         own = either (eqb port 0) (eqb port c.command_at_in-byte.result) c.if-b-byte.false;
-      } }
+      };
+    }
