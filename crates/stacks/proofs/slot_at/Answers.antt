@@ -6,12 +6,12 @@ use native.Mathlib.Omega.{arith}
 use lib.IntN.{pos}
 use lib.ListN.{length, drop, length-drop}
 use lib.Seq.{paste, paste-zero, get_or-drop}
-use borrow.Author.Rules.{sfits_of, rules}
+use borrow.Author.Rules.{rules}
+use mir.Syntax.{w32}
 use mir.Facts.{to_z-of_z}
 use Rattle.state.specs.Fresh.{zeros}
 use Rattle.stacks.specs.Slot.{slot_at}
 use Rattle.stacks.proofs.Slots.{turn}
-use borrow.Author.Rules.{rules}
 use Rattle.stacks.proofs.slot_at.Goals as goal
 
 pub loop-i-init : goal.loop-i-init
@@ -24,7 +24,7 @@ loop-i-preserved c =
     let long : length s ≡ 512 = c.requires.1 in (
       search rules,
       turn (zeros 16) 0 (drop (16 * c.args.slot) s) i (pos 0) _ _ _ c.loop-i.invariant.1 (sym (zero-add i))
-          (to_z-of_z (sfits_of c.m-1.given) ∙ sym (get_or-drop (16 * c.args.slot) s i (pos 0)))
+          (to_z-of_z {w = w32} (search rules) ∙ sym (get_or-drop (16 * c.args.slot) s i (pos 0)))
           (omega arith)
           (simp length-drop (omega arith)),
     )
