@@ -1,0 +1,30 @@
+use mathlib.Core.Path.{◌≡◌, sym, ◌∙◌}
+use mathlib.Core.Bool.{true}
+use Rattle.state.specs.Sound.{sound_core, sound}
+use Rattle.execute.proofs.Calls.{not_sound_lem, not-long, neither, sound-rooms}
+use Rattle.execute.proofs.first_number.Goals as goal
+use Rattle.execute.proofs.first_number.Goals.{Else-not-is_sound_in}
+
+pub returns-then-not-is_sound_in : goal.returns-then-not-is_sound_in
+unfolding sound_core sound
+returns-then-not-is_sound_in c =
+    sym (not_sound_lem c.args.e c.args.vertices c.args.polygons
+    (sym c.is_sound_in.ensures ∙ c.if-not-is_sound_in.true))
+
+is-sound : (c : Else-not-is_sound_in) → sound c.args.e ≡ true
+unfolding sound_core sound
+is-sound c = sym c.is_sound_in.ensures ∙ c.if-not-is_sound_in.false
+
+pub is_long_enough-requires : goal.is_long_enough-requires
+is_long_enough-requires c =
+    sound-rooms c.args.e (is-sound (goal.at.is_long_enough-requires c).Else-not-is_sound_in)
+
+pub returns-then-is_long_enough : goal.returns-then-is_long_enough
+returns-then-is_long_enough c =
+    sym (neither c.args.e c.args.vertices c.args.polygons (is-sound (goal.at.returns-then-is_long_enough c).Else-not-is_sound_in)
+    (sym c.is_long_enough.ensures ∙ c.if-is_long_enough.true))
+
+pub returns-else-is_long_enough : goal.returns-else-is_long_enough
+returns-else-is_long_enough c =
+    sym (not-long c.args.e c.args.vertices c.args.polygons (is-sound (goal.at.returns-else-is_long_enough c).Else-not-is_sound_in)
+    (sym c.is_long_enough.ensures ∙ c.if-is_long_enough.false))
