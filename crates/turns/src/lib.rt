@@ -14,7 +14,7 @@ use words::least;
 
 // What is pending but for the parameters that are held: `count` of them. Commands at the front of `queue` that take
 // none are still to run; `dummy`, with nothing queued: the dummy word is due.
-#[derive(Drop)]
+#[derive(Clone, Copy)]
 pub struct Begun {
     pub queue: u32,
     pub count: usize,
@@ -24,7 +24,7 @@ pub struct Begun {
 
 // What a turn gives: the next item; what is pending then; the command that is complete, with the first held parameters,
 // or 0. Where it has ended, all items are taken or, with a `number`, the next one is refused.
-#[derive(Drop)]
+#[derive(Clone, Copy)]
 pub struct Turn {
     pub next: usize,
     pub begun: Begun,
