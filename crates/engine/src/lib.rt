@@ -1,6 +1,8 @@
 // The engine's calls: one packed word, one port write, a whole list. Each is a feed, of one item or of many, so that
 // commands are run in one place. The record goes by value; the caller's two buffers are borrowed for the call. Document
 // 01, "Commands and their parameters" and "Numbers a call can refuse with"; document 02, T-01.
+#![tactic(auto)]
+
 ghost use Rattle.std.specs.Prelude.{◌≡◌};
 ghost use Rattle.stream.specs.Command.{write};
 ghost use Rattle.stream.specs.Read.{writes};
