@@ -6,7 +6,6 @@ use Rattle.state.specs.declared.Transform.{Transform}
 use Rattle.state.specs.declared.Geometry.{Geometry}
 use Rattle.state.specs.declared.Stacks.{Stacks}
 use Rattle.state.specs.declared.Stream.{Stream}
-use Rattle.state.specs.declared.Engine.{Engine}
 use Rattle.probe.specs.declared.Marked.{Marked}
 
 -- the mark of an unsigned number of 32 bits, and of 64 bits

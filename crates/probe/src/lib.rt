@@ -1,6 +1,8 @@
 // Entries for the checks alone; the product has none of them. A whole log, or a piece of one, in one call: for the
 // comparison and the benchmark of `checks/rust`. An engine with a mark in every member: for `checks/c`, which compares
 // the layout of C's structs with it.
+#![tactic(auto)]
+
 ghost use Rattle.std.specs.Prelude.{◌≡◌};
 ghost use Rattle.stream.specs.Read.{writes};
 ghost use Rattle.stream.specs.Feed.{place_of};
