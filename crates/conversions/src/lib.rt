@@ -1,4 +1,6 @@
 // Packer and unpacker over the direction, and on input that is given as bytes.
+#![tactic(auto)]
+
 ghost use Rattle.std.specs.Prelude.{length};
 ghost use Rattle.stream.specs.Output.{on_bytes, Stores};
 ghost use Rattle.conversions.specs.Convert.{convert};

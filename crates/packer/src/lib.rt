@@ -1,5 +1,7 @@
 // The packer: a log of port writes, address and value pairs, as a packed list. Document 01, "Packer and unpacker". One
 // pass over the log measures, one writes.
+#![tactic(auto)]
+
 ghost use Rattle.std.specs.Prelude.{◌≡◌, ◌+◌, ◌*◌, ◌^◌, ◌≤◌, ◌<◌, length, take, drop};
 ghost use Rattle.std.proofs.lemmas.List.Edits.{sets};
 ghost use Rattle.words.specs.Words.{over};

@@ -1,5 +1,7 @@
 // The unpacker: a packed list as port writes, address and value pairs. Document 01, "Packer and unpacker". One pass
 // over the list measures, one writes.
+#![tactic(auto)]
+
 ghost use Rattle.std.specs.Prelude.{◌≡◌, cond, [], ◌∷◌, ◌+◌, ◌*◌, ◌≤◌, eqb, length, take, drop};
 ghost use Rattle.std.proofs.lemmas.List.Edits.{sets};
 ghost use Rattle.words.specs.Words.{over};

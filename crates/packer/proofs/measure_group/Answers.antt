@@ -1,21 +1,24 @@
-use mathlib.Core.Logic.{⊎_elim, inl, inr}
+use mathlib.Core.Logic.{inl, inr}
 use Prim.Native.Nat.{◌+◌, ◌≤◌}
 use native.Mathlib.Omega.{arith}
-use borrow.Author.Tests.{ltb-true, ltb-false}
 use Rattle.stream.specs.Unpack.{writes_for}
 use Rattle.stream.proofs.PackLaws.{one-most}
 use Rattle.packer.proofs.GroupLaws.{group-start, group-bounds, group-more-fits, group-more}
 use Rattle.packer.proofs.GroupLaws.{group-stopped, group-end}
 use Rattle.packer.proofs.measure_group.Goals as goal
 use Rattle.packer.proofs.measure_group.Goals.{After-writes_for-next}
+use Rattle.packer.proofs.measure_group.Goals.{then-loop-slot-test+else-next-pairs, else-loop-slot-test}
 
 pub loop-slot-init : goal.loop-slot-init
 loop-slot-init c = group-start c.args.i c.requires.log c.requires.i_lt_pairs
 
 pub next_command-found-requires : goal.next_command-found-requires
 next_command-found-requires c =
-    let h = ltb-true c.loop-slot.next c.args.pairs c.if-next-pairs.true in
-    record { table_value = c.requires.table_value; log = c.loop-slot.invariant.is_log; i_lt_pairs = h }
+    record {
+      table_value = c.requires.table_value;
+      log = c.loop-slot.invariant.is_log;
+      i_lt_pairs = c.if-next-pairs.true;
+    }
 
 pub returns-then-found-ne0 : goal.returns-then-found-ne0
 returns-then-found-ne0 c =
@@ -49,8 +52,9 @@ overflow_add-result-2 c =
 
 pub returns : goal.returns
 returns c =
-    let pairs = c.args.pairs in
     rw c.one_if.ensures
     (group-end c.loop-slot.invariant
-    (⊎_elim (λ w. inr (ltb-false c.loop-slot.next pairs w.1.left))
-    (λ w. inl (omega (arith, w.left, group-bounds c.loop-slot.invariant))) c.loop-slot-test.branch))
+    (elim c.loop-slot-test.branch [
+      | then-loop-slot-test+else-next-pairs w ↦ inr w.if-next-pairs.false
+      | else-loop-slot-test w ↦ inl (omega (arith, w.loop-slot-test.false, group-bounds c.loop-slot.invariant))
+    ]))

@@ -19,12 +19,8 @@ returns-then-n-eq0 c =
     is_found c.complete_command.ensures
     (walk_end (walk_start c.requires.log c.args.i c.requires.i_lt_pairs 0 p) (omega arith))
 
-pub all_written-requires : goal.all_written-requires
-all_written-requires c =
-    record { table_value = c.requires.table_value; log = c.requires.log; i_lt_pairs = c.requires.i_lt_pairs; at_port = at-port (goal.at.all_written-requires c).In-Takes }
-
-pub returns-else-n-eq0 : goal.returns-else-n-eq0
-returns-else-n-eq0 c = c.all_written.ensures
+pub all_written-requires-clause-at_port : goal.all_written-requires-clause-at_port
+all_written-requires-clause-at_port c = at-port (goal.at.all_written-requires-clause-at_port c).In-Takes
 
 pub returns-in-Unknown : goal.returns-in-Unknown
 returns-in-Unknown c =
