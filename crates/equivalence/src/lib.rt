@@ -1,5 +1,7 @@
 // Demand 3, stated in specs/Demand3.antt and specs/Calls.antt and proved in proofs/; and a function that runs both
 // sides of a log, so that the claim can be watched.
+#![tactic(auto)]
+
 ghost use Rattle.std.specs.Prelude.{◌≡◌};
 ghost use Rattle.equivalence.specs.Demand3.{Start};
 ghost use Rattle.equivalence.specs.Calls.{lent};
@@ -11,7 +13,7 @@ use state::{Engine, ListAnswer};
 use stream::OutputAnswer;
 
 // What the packer answered, and both ends.
-#[derive(Clone, Copy)]
+#[derive(Drop)]
 pub struct BothEnds {
     pub packed: OutputAnswer,
     pub writes: ListAnswer,
