@@ -12,7 +12,7 @@ use Rattle.words.proofs.Over.{take-over}
 use Rattle.words.proofs.Words.{length-bytes_of, length-words_of, words-bytes, bytes-words}
 use Rattle.words.proofs.Below.{below_at, words_below}
 use Rattle.stream.specs.declared.OutputAnswer.{OutputAnswer}
-use Rattle.stream.specs.Output.{Output, refusal, on_bytes, answer_of, Stores}
+use Rattle.stream.specs.Output.{Output, refusal, on_bytes, Stores}
 use Rattle.stream.specs.Pack.{pack}
 use Rattle.stream.specs.Unpack.{unpack}
 use Rattle.stream.proofs.OutputLaws.{stored-words}
@@ -21,7 +21,7 @@ use Rattle.equivalence.specs.RoundTrip.{RoundTrip}
 use Rattle.equivalence.proofs.CallLaws.{sides_demand3}
 use Rattle.equivalence.proofs.RoundTripLaws.{calls_demand2}
 use Rattle.nauvelppi.specs.Bytes.{on_all_bytes, StoresBytes}
-use Rattle.nauvelppi.specs.Demands.{PackedForC, packed_bytes, Demand3ForC, BytesBack, Demand2ForC}
+use Rattle.nauvelppi.specs.Demands.{PackedForC, packed_bytes, Demand3ForC, Demand2ForC}
 
 -- ---- a call on bytes, as one on words
 

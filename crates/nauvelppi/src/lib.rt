@@ -1,5 +1,7 @@
 // The entries for C: packer and unpacker on byte slices, and the engine's calls. Document 01, "Packer and unpacker can
 // be called from our C editor on byte slices." `bindings/c/nauvelppi.h` declares them.
+#![tactic(auto)]
+
 ghost use Rattle.std.specs.Prelude.{◌≡◌, length};
 ghost use Rattle.stream.specs.Command.{write};
 ghost use Rattle.stream.specs.Feed.{place_of};
