@@ -1,0 +1,22 @@
+use Prim.Native.Nat.{◌-◌}
+use native.Mathlib.Omega.{arith}
+use lib.ListN.{length, drop, length-take, length-drop}
+use mir.Syntax.{w32}
+use Rattle.lowbits.proofs.Read.{again}
+use Rattle.listing.proofs.PutLaws.{puts_both}
+use Rattle.readout.specs.Readout.{vertex_line}
+use Rattle.readout.proofs.NumberLaws.{signed-end}
+use Rattle.readout.proofs.ChunkLaws.{rest_of}
+use Rattle.readout.proofs.put_vertex_line.Goals as goal
+
+pub put_numbers_line-requires : goal.put_numbers_line-requires
+put_numbers_line-requires c =
+    let v = c.args.v.now in
+    omega (arith, signed-end _ c.put_signed-rest.ensures, length-take (length v - 1) (drop 1 v), length-drop 1 v)
+
+pub returns : goal.returns
+unfolding vertex_line
+returns c =
+    let v = c.args.v.now in
+    rw (again w32 _ c.put_signed-arg-2-1.given, rest_of v) at
+    (puts_both c.put_signed-rest.ensures c.put_numbers_line.ensures)
