@@ -3,8 +3,6 @@ use mir.Syntax.{w32}
 use Rattle.lowbits.proofs.Read.{not-cast, cast}
 use Rattle.listing.proofs.PutLaws.{puts_both}
 use Rattle.readout.proofs.NumberLaws.{magnitude-less, signed-negative, signed-natural}
-use Rattle.listing.proofs.put_bytes.Reads as put-bytes-reads
-use Rattle.listing.proofs.put_decimal.Reads as put-decimal-reads
 use Rattle.readout.proofs.put_signed.Goals as goal
 
 -- src/lib.rt:41:42

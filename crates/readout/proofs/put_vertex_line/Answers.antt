@@ -1,8 +1,11 @@
 use Prim.Native.Nat.{◌-◌}
 use native.Mathlib.Omega.{arith}
-use lib.ListN.{length, drop, length-take, length-drop}
+use lib.IntN.{pos}
+use lib.ListN.{length, get_or, drop, length-take, length-drop}
 use mir.Syntax.{w32}
-use Rattle.lowbits.proofs.Read.{again}
+use mir.Val.{SFits}
+use mir.ValLaws.{to_z-of_z}
+use borrow.Author.Rules.{rules}
 use Rattle.listing.proofs.PutLaws.{puts_both}
 use Rattle.readout.specs.Readout.{vertex_line}
 use Rattle.readout.proofs.NumberLaws.{signed-end}
@@ -18,5 +21,6 @@ pub returns : goal.returns
 unfolding vertex_line
 returns c =
     let v = c.args.v.now in
-    rw (again w32 _ c.put_signed-arg-2-1.given, rest_of v) at
+    let x : SFits w32 (get_or v 0 (pos 0)) = search rules in
+    rw (to_z-of_z w32 _ x, rest_of v) at
     (puts_both c.put_signed-rest.ensures c.put_numbers_line.ensures)
