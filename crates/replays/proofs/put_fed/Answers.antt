@@ -15,20 +15,27 @@ put_refusal-engine-requires c =
 
 pub put_engine-requires : goal.put_engine-requires
 put_engine-requires c =
-    record { e_value = c.requires.engine_value.0; polygons_value = c.requires.polygons_value; at_in_bounds = omega (
-          arith,
-          c.requires.in_bounds,
-          number_line_end (ascii "taken ") _ c.put_number_line-refusal.ensures,
-          c.put_refusal-engine.ensures.upper_bound,
-        ) }
+    record {
+      e_value = c.requires.engine_value.0;
+      polygons_value = c.requires.polygons_value;
+      at_in_bounds = omega (
+        arith,
+        c.requires.in_bounds,
+        number_line_end (ascii "taken ") _ c.put_number_line-refusal.ensures,
+        c.put_refusal-engine.ensures.upper_bound,
+      );
+    }
 
 pub returns : goal.returns
 unfolding fed_text
 returns c =
-    record { puts = puts_both (puts_both c.put_number_line-refusal.ensures c.put_refusal-engine.ensures.puts)
-          c.put_engine.ensures.puts; upper_bound = omega (
+    record {
+      puts = puts_both (puts_both c.put_number_line-refusal.ensures c.put_refusal-engine.ensures.puts)
+          c.put_engine.ensures.puts;
+      upper_bound = omega (
         arith,
         number_line_end (ascii "taken ") _ c.put_number_line-refusal.ensures,
         c.put_refusal-engine.ensures.upper_bound,
         c.put_engine.ensures.upper_bound,
-      ) }
+      );
+    }

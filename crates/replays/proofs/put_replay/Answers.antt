@@ -10,11 +10,7 @@ use Rattle.state.proofs.SoundLaws.{start-sound}
 use Rattle.listing.proofs.LineLaws.{length-refused_line}
 use Rattle.replays.proofs.ReplayLaws.{always_long, rooms-refused, input-refused, replay-ran, reports}
 use Rattle.replays.proofs.put_replay.Goals as goal
-use Rattle.replays.proofs.put_replay.Goals.{After-put_run-arg-1, After-read_words, After-start-started}
-
--- the text's buffer
-text-long : (c : After-put_run-arg-1) → length c.args.text.now ≡ 433649
-text-long c = omega arith
+use Rattle.replays.proofs.put_replay.Goals.{After-read_words, After-start-started}
 
 -- the engine that was started
 sounds : (c : After-start-started) → sound c.start-started.result.engine ≡ true
@@ -62,7 +58,7 @@ returns c =
     let run = c.put_run.ensures in
     let r = read (goal.at.returns c).After-read_words in
     let within : c.put_run.result ≤ length c.args.text.now =
-    omega (arith, run.upper_bound, text-long (goal.at.returns c).After-put_run-arg-1) in
+    omega (arith, run.upper_bound) in
     let report = reports (replay-ran c.args.log c.args.rooms.vertices c.args.rooms.polygons c.args.input.now
     c.args.vertices.now c.args.polygons.now c.start-started.result c.start-started.ensures c.if-started-ne0.false
     r.is-input _ r.words) run.puts within run.vertices_after run.polygons_after in
