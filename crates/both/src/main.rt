@@ -1,49 +1,52 @@
 // Reads a log from standard input, little-endian words, packs it, and runs both sides of demand 3 from a fresh engine.
 // Prints the packed length and, for each side, the number answered, how many were taken, the used counts and the status
 // word; or the packer's refusal. That both sides are equal is proved in the crate equivalence; here it can be watched.
+#![tactic(auto)]
+
 use equivalence::run_both;
 use feeding::{polygon_buffer, vertex_buffer};
-use libc::{STDIN_FILENO, STDOUT_FILENO};
 use registers::status;
 use state::{Engine, ListAnswer, MOST_POLYGONS, MOST_VERTICES};
+use std::io;
 use stream::{is_input, longest_list};
+use terminal::{input_buffer, read_full};
 use words::read_words;
 
-fn print_text(text: &[u8]) {
-    io::write_all(STDOUT_FILENO, text);
+fn print_text(rt: &impl Print, text: &[u8]) -> io::Result<()> {
+    rt.write_all(text)
 }
 
 // A name, then a number in decimal.
-fn print_number(name: &[u8], n: u64) {
-    print_text(name);
-    io::print_decimal(STDOUT_FILENO, n);
+fn print_number(rt: &impl Print, name: &[u8], n: u64) -> io::Result<()> {
+    print_text(rt, name)?;
+    print!(rt; "{n}")
 }
 
 // A name, then a number as eight hex digits.
-fn print_hex(name: &[u8], n: u32) {
-    print_text(name);
-    io::print_hex(STDOUT_FILENO, n as u64, 8);
+fn print_hex(rt: &impl Print, name: &[u8], n: u32) -> io::Result<()> {
+    print_text(rt, name)?;
+    print!(rt; "{n:08x}")
 }
 
-fn print_refused(number: u32, place: u32) {
-    print_number(b"refused ", number as u64);
-    print_number(b" ", place as u64);
-    print_text(b"\n");
+fn print_refused(rt: &impl Print, number: u32, place: u32) -> io::Result<()> {
+    print_number(rt, b"refused ", number as u64)?;
+    print_number(rt, b" ", place as u64)?;
+    print_text(rt, b"\n")
 }
 
-fn print_end(name: &[u8], end: ListAnswer) {
+fn print_end(rt: &impl Print, name: &[u8], end: ListAnswer) -> io::Result<()> {
     let used = end.engine.core.registers.geometry.used;
     let read = status(end.engine);
-    print_number(name, end.number as u64);
-    print_number(b" taken ", end.taken as u64);
-    print_number(b" vertices ", used.vertices as u64);
-    print_number(b" polygons ", used.polygons as u64);
-    print_hex(b" status ", read.status);
-    print_text(b"\n");
+    print_number(rt, name, end.number as u64)?;
+    print_number(rt, b" taken ", end.taken as u64)?;
+    print_number(rt, b" vertices ", used.vertices as u64)?;
+    print_number(rt, b" polygons ", used.polygons as u64)?;
+    print_hex(rt, b" status ", read.status)?;
+    print_text(rt, b"\n")
 }
 
 // Both sides of a log, each with buffers of its own.
-fn print_both(log: &[u32]) {
+fn print_both(rt: &impl Print, log: &[u32]) -> io::Result<()> {
     let started = Engine::start(MOST_VERTICES, MOST_POLYGONS);
     let mut list = longest_list();
     let mut vertices = vertex_buffer();
@@ -60,21 +63,21 @@ fn print_both(log: &[u32]) {
         &mut polygons2,
     );
     if ends.packed.number != 0 {
-        return print_refused(ends.packed.number, ends.packed.place);
+        return print_refused(rt, ends.packed.number, ends.packed.place);
     }
-    print_number(b"words ", ends.packed.length as u64);
-    print_text(b"\n");
-    print_end(b"writes: number ", ends.writes);
-    print_end(b"words: number ", ends.words);
+    print_number(rt, b"words ", ends.packed.length as u64)?;
+    print_text(rt, b"\n")?;
+    print_end(rt, b"writes: number ", ends.writes)?;
+    print_end(rt, b"words: number ", ends.words)
 }
 
-fn main() {
-    let mut input = io::large_buffer();
-    let read = io::read_full(STDIN_FILENO, &mut input);
+fn main(rt: HostRuntime) -> io::Result<()> {
+    let mut input = input_buffer();
+    let read = read_full(&mut rt.stdin(), &mut input)?;
     if !is_input(true, read) {
-        return print_refused(7, 0);
+        return print_refused(&rt, 7, 0);
     }
     let mut log = longest_list();
     read_words(&input[..read], &mut log);
-    print_both(&log[..read / 4]);
+    print_both(&rt, &log[..read / 4])
 }

@@ -1,5 +1,7 @@
 // The text that the programs print, put into a buffer of bytes. Every function here is for the crates above, whose
 // buffers are long enough.
+#![tactic(auto)]
+
 ghost use Rattle.std.specs.Prelude.{◌+◌, ◌*◌, ◌/◌, ◌≤◌, length};
 ghost use Rattle.stream.specs.Input.{most_words, longest_log};
 ghost use Rattle.stream.specs.Command.{write};

@@ -1,15 +1,15 @@
 -- How long each text of an engine is.
-use mathlib.Core.Bool.{Bool, true, false, cond}
-use mathlib.Core.List.{List, [], ◌∷◌, ◌++◌}
-use mathlib.Core.Path.{◌≡◌, refl, ap, ◌∙◌}
-use Prim.Native.Nat.{ℕ, ◌+◌, ◌*◌, ◌≤◌}
+use mathlib.Core.Bool.{true, false}
+use mathlib.Core.List.{List, [], ◌∷◌}
+use mathlib.Core.Path.{◌≡◌}
+use Prim.Native.Nat.{ℕ, ◌+◌, ◌≤◌}
 use native.Mathlib.Omega.{arith}
 use lib.IntN.{ℤ, pos}
 use lib.ListN.{length, get_or, drop, length-append, length-drop}
-use Rattle.listing.specs.Text.{ascii, decimal, hex8, word_line, number_line}
+use Rattle.listing.specs.Text.{ascii}
 use Rattle.listing.specs.Buffer.{Puts}
 use Rattle.listing.proofs.NumberLaws.{length-decimal, length-hex}
-use Rattle.listing.proofs.LineLaws.{length-number_line, length-word_line}
+use Rattle.listing.proofs.LineLaws.{length-word_line}
 use Rattle.state.specs.declared.OpenList.{OpenList}
 use Rattle.state.specs.declared.OpenList.TheVariants.{Closed, Triangles, Quads, TriangleStrip, QuadStrip}
 use Rattle.state.specs.declared.Coordinates.{Coordinates}

@@ -66,7 +66,7 @@ pending_line p = number_line (ascii "pending ") (flag (is_pending p))
 unfoldable pub matrices_text : Transform → List ℕ
 matrices_text t =
     numbers_line (ascii "projection") t.projection.matrix
-    ++ numbers_line (ascii "position_matrix") t.pair.position
+    ++ numbers_line (ascii "position-matrix") t.pair.position
     ++ numbers_line (ascii "vector") t.pair.vector
     ++ numbers_line (ascii "texture") t.texture.matrix
     ++ numbers_line (ascii "clip") (clip_of t)

@@ -1,4 +1,6 @@
 // The text of an engine and the caller's two buffers, as the program `replay` prints it, put into a buffer of bytes.
+#![tactic(auto)]
+
 ghost use Rattle.std.specs.Prelude.{◌≡◌, true, [], ◌∷◌, ◌++◌, ◌+◌, ◌*◌, ◌≤◌, length};
 ghost use Rattle.stream.specs.Call.{machine};
 ghost use Rattle.state.specs.Sizes.{vertex_width, most_vertices};

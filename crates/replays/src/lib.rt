@@ -1,5 +1,7 @@
 // What the program `replay` is told by its arguments (`replay list|log [VERTICES POLYGONS]`), and what it writes: the
 // run of a packed list or of a log on a started engine.
+#![tactic(auto)]
+
 ghost use Rattle.std.specs.Prelude.{◌≡◌, true, ◌+◌, ◌≤◌, length};
 ghost use Rattle.stream.specs.Input.{most_words};
 ghost use Rattle.io.specs.Counts.{IsPrefixLen as Counted};
@@ -18,7 +20,7 @@ use stream::{is_input, longest_list};
 use words::read_words;
 
 // What standard input holds: packed words, or a log of port writes.
-#[derive(Drop)]
+#[derive(Clone, Copy)]
 pub enum Source {
     List,
     Log,

@@ -1,0 +1,23 @@
+use native.Mathlib.Omega.{arith}
+use Rattle.listing.proofs.PutLaws.{puts_both}
+use Rattle.readout.specs.Readout.{levels_line}
+use Rattle.listing.proofs.NumberLaws.{decimal-end}
+use Rattle.readout.proofs.put_levels.Goals as goal
+
+pub put_bytes-second-requires : goal.put_bytes-second-requires
+put_bytes-second-requires c =
+    omega (arith, decimal-end _ c.put_decimal-space.ensures)
+
+pub put_decimal-end-requires : goal.put_decimal-end-requires
+put_decimal-end-requires c =
+    omega (arith, decimal-end _ c.put_decimal-space.ensures)
+
+pub put_number_line-requires : goal.put_number_line-requires
+put_number_line-requires c =
+    omega (arith, decimal-end _ c.put_decimal-end.ensures, decimal-end _ c.put_decimal-space.ensures)
+
+pub returns : goal.returns
+unfolding levels_line
+returns c =
+    puts_both (puts_both (puts_both (puts_both c.put_bytes-first.ensures c.put_decimal-space.ensures)
+    c.put_bytes-second.ensures) c.put_decimal-end.ensures) c.put_number_line.ensures
