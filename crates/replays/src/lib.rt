@@ -123,11 +123,9 @@ fn put_run(
     ensures puts { Puts (fed_text (feed_as log (machine_of e vertices.old polygons.old)
         words.now)) 0 result text.old text.new }
     ensures vertices_after { vertices.new
-        ≡ (feed_as log (machine_of e vertices.old polygons.old) words.now
-        ).left.state.vertices }
+        ≡ (feed_as log (machine_of e vertices.old polygons.old) words.now).left.state.vertices }
     ensures polygons_after { polygons.new
-        ≡ (feed_as log (machine_of e vertices.old polygons.old) words.now
-        ).left.state.polygons }
+        ≡ (feed_as log (machine_of e vertices.old polygons.old) words.now).left.state.polygons }
     ensures upper_bound { result ≤ 433649 }
 {
     let fed = feed_as(log, e, words, &mut *vertices, &mut *polygons);
