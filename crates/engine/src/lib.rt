@@ -16,7 +16,7 @@ use state::{Answer, Engine, ListAnswer};
 // One packed word: a command word, a parameter or a dummy. Refused with 1, 2, 4 or 3, in this order; a refused call
 // hands back the engine that it was given and leaves both buffers as they were.
 pub fn word(e: Engine, w: u32, vertices: &mut [i32], polygons: &mut [u32]) -> Answer
-    ensures polygons_after { reply_of result vertices.new polygons.new
+    ensures reply { reply_of result vertices.new polygons.new
         ≡ word_reply (machine_of e vertices.old polygons.old) w }
     ensures given_back { GivenBack e result }
 {
@@ -34,7 +34,7 @@ pub fn port_write(
     vertices: &mut [i32],
     polygons: &mut [u32],
 ) -> Answer
-    ensures polygons_after { reply_of result vertices.new polygons.new
+    ensures reply { reply_of result vertices.new polygons.new
         ≡ port_reply (machine_of e vertices.old polygons.old) (write address value) }
     ensures given_back { GivenBack e result }
 {
@@ -58,7 +58,7 @@ pub fn feed_as(
     vertices: &mut [i32],
     polygons: &mut [u32],
 ) -> ListAnswer
-    ensures polygons_after { fed_of result vertices.new polygons.new
+    ensures reply { fed_of result vertices.new polygons.new
         ≡ feed_as log (machine_of e vertices.old polygons.old) words.now }
     ensures place_value { result.place ≡ place_of result.number result.taken }
     ensures first_given_back { FirstGivenBack e result }
@@ -82,7 +82,7 @@ pub fn feed_words(
     vertices: &mut [i32],
     polygons: &mut [u32],
 ) -> ListAnswer
-    ensures polygons_after { fed_of result vertices.new polygons.new
+    ensures reply { fed_of result vertices.new polygons.new
         ≡ words_reply (machine_of e vertices.old polygons.old) words.now }
     ensures place_value { result.place ≡ place_of result.number result.taken }
     ensures first_given_back { FirstGivenBack e result }
@@ -93,7 +93,7 @@ pub fn feed_words(
 // The port writes of a log in one call, in the same way: the other side of demand 3. A last number without a partner is
 // no write. For the crates above this one.
 pub fn feed_writes(e: Engine, log: &[u32], vertices: &mut [i32], polygons: &mut [u32]) -> ListAnswer
-    ensures polygons_after { fed_of result vertices.new polygons.new
+    ensures reply { fed_of result vertices.new polygons.new
         ≡ writes_reply (machine_of e vertices.old polygons.old) (writes log.now) }
     ensures place_value { result.place ≡ place_of result.number result.taken }
     ensures first_given_back { FirstGivenBack e result }

@@ -35,8 +35,8 @@ all_equal a b e = rw e (record {
   texture_matrix = refl;
   position-slots = refl;
   vector-slots = refl;
-  projection_slot_lem = refl;
-  texture_slot_lem = refl;
+  projection-slot = refl;
+  texture-slot = refl;
   position-level = refl;
   projection-level = refl;
   texture-level = refl;
@@ -135,8 +135,8 @@ all_listed a b r e =
     let t : transform_of a ≡ transform_of b =
     same-transform (transform_of a) (transform_of b)
     (same_pair _ _ e.position_matrix e.vector_matrix e.position-level)
-    (same-single _ _ e.projection_matrix e.projection_slot_lem e.projection-level)
-    (same-single _ _ e.texture_matrix e.texture_slot_lem e.texture-level) e.mode e.error in
+    (same-single _ _ e.projection_matrix e.projection-slot e.projection-level)
+    (same-single _ _ e.texture_matrix e.texture-slot e.texture-level) e.mode e.error in
     let k : stacks_of a ≡ stacks_of b = same-stacks _ _ e.position-slots e.vector-slots in
     let w : waiting_of a ≡ waiting_of b =
     same-waiting _ _ e.open_list e.first-waiting e.second-waiting e.third-waiting e.waiting-count in

@@ -33,8 +33,8 @@ pub record EqualEnds (a b : Machine (Buffered Core)) : Type 0 where
   -- "every slot of every stack;"
   pub position-slots : (stacks_of a).positions ≡ (stacks_of b).positions
   pub vector-slots : (stacks_of a).vectors ≡ (stacks_of b).vectors
-  pub projection_slot_lem : (transform_of a).projection.slot ≡ (transform_of b).projection.slot
-  pub texture_slot_lem : (transform_of a).texture.slot ≡ (transform_of b).texture.slot
+  pub projection-slot : (transform_of a).projection.slot ≡ (transform_of b).projection.slot
+  pub texture-slot : (transform_of a).texture.slot ≡ (transform_of b).texture.slot
   -- "the three levels;"
   pub position-level : (transform_of a).pair.level ≡ (transform_of b).pair.level
   pub projection-level : (transform_of a).projection.level ≡ (transform_of b).projection.level

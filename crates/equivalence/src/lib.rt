@@ -13,7 +13,7 @@ use state::{Engine, ListAnswer};
 use stream::OutputAnswer;
 
 // What the packer answered, and both ends.
-#[derive(Drop)]
+#[derive(Clone, Copy)]
 pub struct BothEnds {
     pub packed: OutputAnswer,
     pub writes: ListAnswer,

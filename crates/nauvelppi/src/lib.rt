@@ -79,7 +79,7 @@ pub extern "C" fn nauvelppi_word(
     vertices: &mut [i32],
     polygons: &mut [u32],
 ) -> Answer
-    ensures polygons_after { reply_of result vertices.new polygons.new
+    ensures reply { reply_of result vertices.new polygons.new
         ≡ word_reply (machine_of e vertices.old polygons.old) w }
     ensures given_back { GivenBack e result }
 {
@@ -95,7 +95,7 @@ pub extern "C" fn nauvelppi_port_write(
     vertices: &mut [i32],
     polygons: &mut [u32],
 ) -> Answer
-    ensures polygons_after { reply_of result vertices.new polygons.new
+    ensures reply { reply_of result vertices.new polygons.new
         ≡ port_reply (machine_of e vertices.old polygons.old) (write address value) }
     ensures given_back { GivenBack e result }
 {
@@ -104,7 +104,7 @@ pub extern "C" fn nauvelppi_port_write(
 
 // What the entry that updates the caller's own record answers: 0, or the number that it refuses with; a place.
 #[repr(C)]
-#[derive(Drop)]
+#[derive(Clone, Copy)]
 pub struct CallAnswer {
     pub number: u32,
     pub place: u32,
@@ -119,7 +119,7 @@ pub extern "C" fn nauvelppi_word_in_place(
     vertices: &mut [i32],
     polygons: &mut [u32],
 ) -> CallAnswer
-    ensures polygons_after { reply_of (in_place result engine.new) vertices.new polygons.new
+    ensures reply { reply_of (in_place result engine.new) vertices.new polygons.new
         ≡ word_reply (machine_of engine.old vertices.old polygons.old) w }
     ensures given_back { GivenBack engine.old (in_place result engine.new) }
 {
@@ -139,7 +139,7 @@ pub extern "C" fn nauvelppi_words(
     vertices: &mut [i32],
     polygons: &mut [u32],
 ) -> ListAnswer
-    ensures polygons_after { fed_of result vertices.new polygons.new
+    ensures reply { fed_of result vertices.new polygons.new
         ≡ words_reply (machine_of e vertices.old polygons.old) words.now }
     ensures place_value { result.place ≡ place_of result.number result.taken }
     ensures first_given_back { FirstGivenBack e result }

@@ -22,7 +22,7 @@ use stream::{MOST_WORDS, OutputAnswer, one_if, refused, writes_for};
 const SLOTS: usize = 4;
 
 // What a log has at a write where none is pending: a command, and how many parameters it takes; or a refusal.
-#[derive(Drop)]
+#[derive(Clone, Copy)]
 struct Found {
     number: u32,
     place: u32,
@@ -30,7 +30,7 @@ struct Found {
 }
 
 // The commands of one command word: the write behind them, and how many words they are packed into; or a refusal.
-#[derive(Drop)]
+#[derive(Clone, Copy)]
 struct Group {
     number: u32,
     place: u32,
@@ -39,7 +39,7 @@ struct Group {
 }
 
 // Where reading and writing go on.
-#[derive(Drop)]
+#[derive(Clone, Copy)]
 struct Places {
     next: usize,
     to: usize,
@@ -182,7 +182,7 @@ fn measure(table: &Table, log: &[u32], pairs: usize) -> OutputAnswer
 // The parameters of a command that begins at the i-th write, into the buffer from `to` on; the write behind it.
 fn put_values(log: &[u32], i: usize, count: usize, buffer: &mut [u32], to: usize) -> usize
     requires count_in_bounds { 2 * (i + count) ≤ length log.now }
-    requires count_in_bounds_2 { to + count ≤ length buffer.old }
+    requires room { to + count ≤ length buffer.old }
     ensures value { result ≡ i + writes_for count }
     ensures buffer_after { buffer.new
         ≡ sets buffer.old to (values (take count (drop i (writes log.now)))) }

@@ -23,7 +23,7 @@ pub extern "C" fn probe_feed_writes(
     vertices: &mut [i32],
     polygons: &mut [u32],
 ) -> ListAnswer
-    ensures polygons_after { fed_of result vertices.new polygons.new
+    ensures reply { fed_of result vertices.new polygons.new
         ≡ writes_reply (machine_of e vertices.old polygons.old) (writes log.now) }
     ensures place_value { result.place ≡ place_of result.number result.taken }
     ensures first_given_back { FirstGivenBack e result }

@@ -11,7 +11,7 @@ use std::num::{wrapping_add_u32, wrapping_sub_u32};
 
 // A sum of products in parts: what counts from bit 32 on, from bit 16 on and from bit 0 on, and the sum of the factors
 // that are in offset binary.
-#[derive(Drop)]
+#[derive(Clone, Copy)]
 pub struct Sum {
     pub upper: u32,
     pub middle: u32,
@@ -47,7 +47,7 @@ fn half_product(a: u16, b: u16) -> u32
 }
 
 // The four products of the halves of x and a.
-#[derive(Drop)]
+#[derive(Clone, Copy)]
 struct Products {
     upper: u32,
     left: u32,

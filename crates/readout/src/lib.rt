@@ -106,7 +106,7 @@ fn put_levels(text: &mut [u8], at: usize, s: usize, p: usize, t: usize) -> usize
 
 // The status word, the mode, the levels.
 fn put_transform(text: &mut [u8], at: usize, t: Transform) -> usize
-    requires t_value { sound_transform t ≡ true }
+    requires sound { sound_transform t ≡ true }
     requires at_in_bounds { at + 72 ≤ length text.old }
     ensures puts { Puts (transform_text t) at result text.old text.new }
     ensures upper_bound { result ≤ at + 72 }
@@ -181,7 +181,7 @@ fn put_geometry(text: &mut [u8], at: usize, g: Geometry) -> usize
 
 // Whether a command is pending.
 fn put_pending(text: &mut [u8], at: usize, s: Stream) -> usize
-    requires s_value { sound_stream s ≡ true }
+    requires sound { sound_stream s ≡ true }
     requires at_in_bounds { at + 19 ≤ length text.old }
     ensures puts { Puts (pending_line (pending_of s)) at result text.old text.new }
     ensures upper_bound { result ≤ at + 19 }
@@ -328,7 +328,7 @@ fn waiting_numbers(w: Waiting) -> [i32; 3 * VERTEX_WIDTH]
 
 // The registers, and whether a command is pending.
 fn put_registers(text: &mut [u8], at: usize, r: Registers, s: Stream) -> usize
-    requires transform_value { (sound_transform r.transform ≡ true) × (sound_stream s ≡ true) }
+    requires sound { (sound_transform r.transform ≡ true) × (sound_stream s ≡ true) }
     requires at_in_bounds { at + 1235 ≤ length text.old }
     ensures puts { Puts (registers_text r (pending_of s)) at result text.old text.new }
     ensures upper_bound { result ≤ at + 1235 }
@@ -343,8 +343,8 @@ fn put_registers(text: &mut [u8], at: usize, r: Registers, s: Stream) -> usize
 
 // The vertices that wait, and as much of both buffers as is used.
 fn put_lists(text: &mut [u8], at: usize, g: Geometry, vertices: &[i32], polygons: &[u32]) -> usize
-    requires g_value { sound_geometry g ≡ true }
-    requires polygons_value { long_enough g.rooms (length vertices.now) (length polygons.now) ≡ true }
+    requires sound { sound_geometry g ≡ true }
+    requires buffers_long { long_enough g.rooms (length vertices.now) (length polygons.now) ≡ true }
     requires at_in_bounds { at + 432367 ≤ length text.old }
     ensures puts { Puts (lists_text g vertices.now polygons.now) at result
         text.old text.new }
@@ -391,8 +391,8 @@ pub fn put_engine(
     vertices: &[i32],
     polygons: &[u32],
 ) -> usize
-    requires e_value { sound e ≡ true }
-    requires polygons_value { long_enough e.core.registers.geometry.rooms (length vertices.now) (length polygons.now)
+    requires sound { sound e ≡ true }
+    requires buffers_long { long_enough e.core.registers.geometry.rooms (length vertices.now) (length polygons.now)
         ≡ true }
     requires at_in_bounds { at + 433602 ≤ length text.old }
     ensures puts { Puts (machine_text (machine (buffered e.core vertices.now polygons.now)

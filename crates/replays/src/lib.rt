@@ -93,8 +93,8 @@ fn put_refusal(text: &mut [u8], at: usize, number: u32, place: u32) -> usize
 
 // What was fed, and the engine at its end.
 fn put_fed(text: &mut [u8], fed: ListAnswer, vertices: &[i32], polygons: &[u32]) -> usize
-    requires engine_value { (sound fed.engine ≡ true) × (fed.taken ≤ most_words) }
-    requires polygons_value { long_enough fed.engine.core.registers.geometry.rooms (length vertices.now)
+    requires sound { (sound fed.engine ≡ true) × (fed.taken ≤ most_words) }
+    requires buffers_long { long_enough fed.engine.core.registers.geometry.rooms (length vertices.now)
         (length polygons.now) ≡ true }
     requires in_bounds { 433649 ≤ length text.old }
     ensures puts { Puts (fed_text (fed_of fed vertices.now polygons.now)) 0 result
@@ -116,8 +116,8 @@ fn put_run(
     vertices: &mut [i32],
     polygons: &mut [u32],
 ) -> usize
-    requires e_value { (sound e ≡ true) × (length words.now ≤ most_words) }
-    requires polygons_value { long_enough e.core.registers.geometry.rooms (length vertices.old) (length polygons.old)
+    requires sound { (sound e ≡ true) × (length words.now ≤ most_words) }
+    requires buffers_long { long_enough e.core.registers.geometry.rooms (length vertices.old) (length polygons.old)
         ≡ true }
     requires in_bounds { 433649 ≤ length text.old }
     ensures puts { Puts (fed_text (feed_as log (machine_of e vertices.old polygons.old)

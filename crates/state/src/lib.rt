@@ -463,7 +463,7 @@ pub fn is_sound(e: Engine) -> bool
 // A packed word has commands or its dummy to come. For the crates above this one: number 1 does not fall.
 pub fn is_packed_pending(table: &Table, s: Stream) -> bool
     requires table_value { table.now ≡ parameter_table }
-    requires s_value { sound_stream s ≡ true }
+    requires sound { sound_stream s ≡ true }
     ensures { result ≡ packed_pending (pending_of s) }
 {
     is_known_in(table, (s.queue % 256) as u8) | s.dummy

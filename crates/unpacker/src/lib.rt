@@ -21,7 +21,7 @@ use stream::{MOST_WORDS, OutputAnswer, one_if, refused, writes_for};
 
 // What the commands of a command word take: the words behind it that are theirs, its dummy among them; how many port
 // writes they are; and what is left of the word above them.
-#[derive(Drop)]
+#[derive(Clone, Copy)]
 struct Extent {
     words: usize,
     writes: usize,
@@ -29,7 +29,7 @@ struct Extent {
 }
 
 // Where reading and writing go on.
-#[derive(Drop)]
+#[derive(Clone, Copy)]
 struct Places {
     next: usize,
     to: usize,
@@ -108,7 +108,7 @@ fn put_command(
     to: usize,
 ) -> usize
     requires count_in_bounds { i + count ≤ length words.now }
-    requires count_in_bounds_2 { to + 2 * writes_for count ≤ length buffer.old }
+    requires room { to + 2 * writes_for count ≤ length buffer.old }
     ensures value { result ≡ to + 2 * writes_for count }
     ensures buffer_after { buffer.new
         ≡ sets buffer.old to
@@ -191,7 +191,7 @@ pub fn unpack_from(words: &[u32], place: usize, output: &mut [u32]) -> OutputAns
 }
 
 // Document 01's list reader: the caller's words, and a place in them.
-#[derive(Drop)]
+#[derive(Clone, Copy)]
 pub struct ListReader<'a> {
     pub words: &'a [u32],
     pub place: usize,

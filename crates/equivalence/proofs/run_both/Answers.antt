@@ -34,6 +34,6 @@ returns c =
     let writes = c.feed_writes-writes.ensures in
     let words = c.feed_words-words.ensures in
     let both =
-    both-ran c.pack-packed.ensures c.if-packed-ne0.false writes.polygons_after writes.place_value
-    words.polygons_after words.place_value in
+    both-ran c.pack-packed.ensures c.if-packed-ne0.false writes.reply writes.place_value
+    words.reply words.place_value in
     record { ran = both.0; both_agree = both.1 }

@@ -33,8 +33,8 @@ run_turns-ended-requires c =
     record {
       table_value = c.requires.table_value;
       positions_len = (c.positions_of-positions.ensures.1, c.vectors_of-vectors.ensures.1);
-      polygons_value = subst (λ (e : Engine). first_number e (length c.args.vertices.now) (length c.args.polygons.now) ≡ 0)
-          (sym (whole_is (goal.at.run_turns-ended-requires c).After-levels_of)) c.requires.polygons_value;
+      usable = subst (λ (e : Engine). first_number e (length c.args.vertices.now) (length c.args.polygons.now) ≡ 0)
+          (sym (whole_is (goal.at.run_turns-ended-requires c).After-levels_of)) c.requires.usable;
     }
 
 pub returns : goal.returns

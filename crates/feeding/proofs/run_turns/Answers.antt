@@ -76,7 +76,7 @@ module _ (c : After-operation_of) where
   began-first =
       first-is given c.args.geometry c.args.stream c.begun_of-begun.result c.held_of-held.result
       (length c.args.vertices.now) (length c.args.polygons.now)
-      (ap₂ stream_with c.begun_of-begun.ensures.0 c.held_of-held.ensures.0) c.requires.polygons_value
+      (ap₂ stream_with c.begun_of-begun.ensures.0 c.held_of-held.ensures.0) c.requires.usable
 
   -- the matrices before the command
   abbrev current : Matrices
@@ -137,7 +137,7 @@ loop-clip-init c =
     ap₂ stream_with c.begun_of-begun.ensures.0 c.held_of-held.ensures.0 in
     let e = begins m c.args.geometry c.begun_of-begun.result c.held_of-held.result in
     let first = first-is m c.args.geometry c.args.stream c.begun_of-begun.result c.held_of-held.result
-    (length c.args.vertices.now) (length c.args.polygons.now) same c.requires.polygons_value in
+    (length c.args.vertices.now) (length c.args.polygons.now) same c.requires.usable in
     let small : e.stream.queue < 2 ^ 32 =
     omega (arith, c.begun_of-begun.ensures.1, ap (λ (b : Begun). b.queue) c.begun_of-begun.ensures.0) in
     record {
@@ -173,9 +173,9 @@ loop-clip-preserved-in-Stack c =
     again (goal.at.loop-clip-preserved-in-Stack c).After-operation_of _ c.in-Stack.is
     (_) l.work.geometry l.vertices l.polygons l.clip false
     (ran_stack (current (goal.at.loop-clip-preserved-in-Stack c).After-operation_of) l.work.geometry l.vertices l.polygons c.turn_at-turn.new.held _ _
-    c.run_stack-levels.ensures.texture_slot_after)
+    c.run_stack-levels.ensures.moved)
     (λ t. absurd (false≢true t))
-    c.run_stack-levels.ensures.positions_len_2.0 c.run_stack-levels.ensures.positions_len_2.1
+    c.run_stack-levels.ensures.lengths_kept.0 c.run_stack-levels.ensures.lengths_kept.1
 
 pub run_matrix-requires : goal.run_matrix-requires
 run_matrix-requires c =
@@ -233,8 +233,8 @@ run_geometry-work-requires c =
     let l = c.loop-clip in
     let a = c.args in
     record {
-      g_value = (core-parts (core_from (current (goal.at.run_geometry-work-requires c).After-operation_of) l.work.geometry) l.invariant.looping.kept.sound).1;
-      polygons_value = looping-long (began (goal.at.run_geometry-work-requires c).After-operation_of) a.vertices.now a.polygons.now (began-first (goal.at.run_geometry-work-requires c).After-operation_of)
+      sound = (core-parts (core_from (current (goal.at.run_geometry-work-requires c).After-operation_of) l.work.geometry) l.invariant.looping.kept.sound).1;
+      buffers_long = looping-long (began (goal.at.run_geometry-work-requires c).After-operation_of) a.vertices.now a.polygons.now (began-first (goal.at.run_geometry-work-requires c).After-operation_of)
           l.invariant.looping;
     }
 
@@ -299,7 +299,7 @@ returns c =
     ap₂ stream_with c.begun_of-begun.ensures.0 c.held_of-held.ensures.0 in
     let e = begins m c.args.geometry c.begun_of-begun.result c.held_of-held.result in
     let first = first-is m c.args.geometry c.args.stream c.begun_of-begun.result c.held_of-held.result
-    (length c.args.vertices.now) (length c.args.polygons.now) same c.requires.polygons_value in
+    (length c.args.vertices.now) (length c.args.polygons.now) same c.requires.usable in
     let current = matrices_from c.loop-clip.levels c.loop-clip.position c.loop-clip.vector c.loop-clip.positions
     c.loop-clip.vectors c.loop-clip.projection c.loop-clip.projection_slot c.loop-clip.texture
     c.loop-clip.texture_slot in

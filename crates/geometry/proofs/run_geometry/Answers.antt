@@ -26,9 +26,9 @@ beside-equal s e = ap (λ (g : Geometry). buffered g s.args.vertices.now s.args.
 
 pub vertex_at-requires : goal.vertex_at-requires
 vertex_at-requires c =
-    let r = geometry-ranges c.args.g c.requires.g_value in record {
+    let r = geometry-ranges c.args.g c.requires.sound in record {
       bounds = bounds (buffered c.args.g c.args.vertices.now c.args.polygons.now) r
-          c.requires.polygons_value;
+          c.requires.buffers_long;
       count_bound = (at_most_3 (list_of c.args.g.waiting.list) c.args.g.waiting.count r.waiting.few, r.colour);
     }
 

@@ -47,7 +47,7 @@ pub put_values-next-requires : goal.put_values-next-requires
 put_values-next-requires c =
     let n = counted (goal.at.put_values-next-requires c).After-known_count_in-count in
     let room = values-room c.loop-slot.invariant c.loop-slot-test.true c.if-next-pairs.true _ n in
-    record { count_in_bounds = room.0; count_in_bounds_2 = room.1 }
+    record { count_in_bounds = room.0; room = room.1 }
 
 pub overflow_add-end-in-loop-slot : goal.overflow_add-end-in-loop-slot
 overflow_add-end-in-loop-slot c =

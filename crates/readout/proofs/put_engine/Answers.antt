@@ -6,14 +6,14 @@ use Rattle.readout.proofs.put_engine.Goals as goal
 
 pub put_registers-lists-requires : goal.put_registers-lists-requires
 put_registers-lists-requires c =
-    let parts = sound-parts c.args.e c.requires.e_value in
-    record { transform_value = (parts.transform, parts.stream); at_in_bounds = omega (arith, c.requires.at_in_bounds) }
+    let parts = sound-parts c.args.e c.requires.sound in
+    record { sound = (parts.transform, parts.stream); at_in_bounds = omega (arith, c.requires.at_in_bounds) }
 
 pub put_lists-requires : goal.put_lists-requires
 put_lists-requires c =
-    let parts = sound-parts c.args.e c.requires.e_value in
+    let parts = sound-parts c.args.e c.requires.sound in
     let registers = c.put_registers-lists.ensures.upper_bound in
-    record { g_value = parts.geometry; polygons_value = c.requires.polygons_value; at_in_bounds = omega (arith, c.requires.at_in_bounds, registers) }
+    record { sound = parts.geometry; buffers_long = c.requires.buffers_long; at_in_bounds = omega (arith, c.requires.at_in_bounds, registers) }
 
 pub returns : goal.returns
 unfolding machine_text

@@ -15,13 +15,13 @@ use Rattle.readout.proofs.put_lists.Goals.{Start}
 within : (c : Start) → Bounds (buffered c.args.g c.args.vertices.now c.args.polygons.now)
 within c =
     bounds (buffered c.args.g c.args.vertices.now c.args.polygons.now)
-    (geometry-ranges c.args.g c.requires.g_value) c.requires.polygons_value
+    (geometry-ranges c.args.g c.requires.sound) c.requires.buffers_long
 
 -- at most three vertices wait
 few : (c : Start) → c.args.g.waiting.count ≤ 3
 few c =
     let w = c.args.g.waiting in
-    omega (arith, at_most_3 (list_of w.list) w.count (geometry-ranges c.args.g c.requires.g_value).waiting.few)
+    omega (arith, at_most_3 (list_of w.list) w.count (geometry-ranges c.args.g c.requires.sound).waiting.few)
 
 pub put_records-second-requires : goal.put_records-second-requires
 put_records-second-requires c =
@@ -34,14 +34,14 @@ put_records-third-requires c =
 pub put_records-requires : goal.put_records-requires
 put_records-requires c =
     let b = within (goal.at.put_records-requires c).Start in record {
-      count_le_most_vertices = (omega (arith, b.polygons_used, b.polygon_room_lem), omega (arith, b.polygons_used, b.polygons-long));
+      count_le_most_vertices = (omega (arith, b.polygons_used, b.polygon-room), omega (arith, b.polygons_used, b.polygons-long));
       count_in_bounds = omega (
         arith,
         few (goal.at.put_records-requires c).Start,
         b.vertices_used,
         b.vertex-room,
         b.polygons_used,
-        b.polygon_room_lem,
+        b.polygon-room,
         c.put_records-second.ensures.upper_bound,
         c.put_records-third.ensures.upper_bound,
       );
@@ -64,7 +64,7 @@ returns c =
         arith,
         few (goal.at.returns c).Start,
         b.vertex-room,
-        b.polygon_room_lem,
+        b.polygon-room,
         b.vertices_used,
         b.polygons_used,
         c.put_records-second.ensures.upper_bound,

@@ -14,7 +14,7 @@ put_number_line-levels-requires c =
 
 pub put_levels-requires : goal.put_levels-requires
 put_levels-requires c =
-    let r = ranges c.args.t c.requires.t_value in record {
+    let r = ranges c.args.t c.requires.sound in record {
       s_bound = (r.level, r.projection, r.texture);
       at_in_bounds = omega (
         arith,

@@ -16,8 +16,8 @@ put_refusal-engine-requires c =
 pub put_engine-requires : goal.put_engine-requires
 put_engine-requires c =
     record {
-      e_value = c.requires.engine_value.0;
-      polygons_value = c.requires.polygons_value;
+      sound = c.requires.sound.0;
+      buffers_long = c.requires.buffers_long;
       at_in_bounds = omega (
         arith,
         c.requires.in_bounds,

@@ -51,7 +51,7 @@ put_run-requires c =
     let is-sound = sounds (goal.at.put_run-requires c).After-start-started in
     let r = read (goal.at.put_run-requires c).After-read_words in
     let vertices : length c.args.vertices.now ≡ 30720 = omega arith in
-    let polygons : length c.args.polygons.now ≡ 6144 = omega arith in record { e_value = (is-sound, omega (arith, r.lent, r.few)); polygons_value = rw (vertices, polygons) (always_long c.start-started.result.engine is-sound); in_bounds = omega arith }
+    let polygons : length c.args.polygons.now ≡ 6144 = omega arith in record { sound = (is-sound, omega (arith, r.lent, r.few)); buffers_long = rw (vertices, polygons) (always_long c.start-started.result.engine is-sound); in_bounds = omega arith }
 
 pub returns : goal.returns
 returns c =

@@ -15,4 +15,4 @@ returns c =
     let fits : c.args.s.queue < 2 ^ 32 = search rules in
     ap (λ (b : Bool). b || c.args.s.dummy)
     (c.is_known_in.ensures ∙ sym
-    (is-queued c.args.s.queue fits (no_hole c.args.s long c.requires.s_value)))
+    (is-queued c.args.s.queue fits (no_hole c.args.s long c.requires.sound)))

@@ -30,7 +30,7 @@ pub loop-j-init : goal.loop-j-init
 loop-j-init c =
     record {
       within = c.requires.count_in_bounds;
-      room = omega (arith, c.requires.count_in_bounds_2, some_more c);
+      room = omega (arith, c.requires.room, some_more c);
       most = omega arith;
       same = refl;
       buffer = refl;

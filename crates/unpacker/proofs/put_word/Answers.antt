@@ -25,7 +25,7 @@ put_command-end-requires c =
     let k = is-command (goal.at.put_command-end-requires c).In-loop-none in
     let p = c.loop-none.invariant in
     let n = c.count_in-count.ensures in
-    record { count_in_bounds = enough p k _ n; count_in_bounds_2 = command-room p k _ n }
+    record { count_in_bounds = enough p k _ n; room = command-room p k _ n }
 
 pub overflow_add-next-in-loop-none : goal.overflow_add-next-in-loop-none
 overflow_add-next-in-loop-none c =
