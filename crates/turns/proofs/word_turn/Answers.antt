@@ -51,7 +51,7 @@ returns-then-has_hole c =
     word-hole _ _ _ _ c.requires.fit.0 (unknown (goal.at.returns-then-has_hole c).Else-is_known_in) (inside (goal.at.returns-then-has_hole c).Else-words-i)
     c.if-b-ne0.false
     c.if-b.false
-    (sym (holed (goal.at.returns-then-has_hole c).After-has_hole) ∙ c.if-has_hole.true) c.ends-then-has_hole.ensures
+    (sym (holed (goal.at.returns-then-has_hole c).After-has_hole) ∙ c.if-has_hole.true) (search rules)
 
 pub returns : goal.returns
 returns c =
@@ -60,4 +60,4 @@ returns c =
     word-word _ _ _ _ c.requires.fit.0 (unknown (goal.at.returns c).Else-is_known_in) (inside (goal.at.returns c).Else-words-i)
     c.if-b-ne0.false
     c.if-b.false
-    fits (sym (holed (goal.at.returns c).After-has_hole) ∙ c.if-has_hole.false) c.goes_on-2.ensures
+    fits (sym (holed (goal.at.returns c).After-has_hole) ∙ c.if-has_hole.false) (search rules)
