@@ -13,9 +13,12 @@ nothing, and with --list it prints what each name becomes.
 import collections
 import os
 import re
+import subprocess
 import sys
 
-KIT = "/opt/rattle/rattle"
+# The kit's library, beside the page that `rt doc` names.
+GUIDE = subprocess.run(["rt", "doc"], capture_output=True, text=True, check=True).stdout.strip()
+KIT = os.path.join(os.path.dirname(GUIDE), "rattle")
 CRATES = "crates"
 NAME = re.compile(r"[^\W\d][\w'′″₀-₉]*(?:-[\w'′″₀-₉]+)*")
 DECLARED = re.compile(

@@ -198,7 +198,7 @@ fn values_turn(
     requires table_value { table.now ≡ parameter_table }
     requires writable { Writable b byte log.now i held.old }
     ensures turned { Turned port_step (writes log.now) i b held.old result held.new }
-    ensures queue_value { (result.begun.queue ≡ b.queue) × (result.begun.dummy ≡ b.dummy) }
+    ensures queue_kept { (result.begun.queue ≡ b.queue) × (result.begun.dummy ≡ b.dummy) }
 {
     let takes = count_in(table, byte);
     let count = b.count;
@@ -234,9 +234,9 @@ fn write_turn(
 ) -> Turn
     requires table_value { table.now ≡ parameter_table }
     requires fit { Fit b × (i ≤ length log.now / 2) × (length held.old ≡ 32) }
-    requires b_value { (due_of b ≡ []) × (packed ≡ is_packed b) }
+    requires not_due { (due_of b ≡ []) × (packed ≡ is_packed b) }
     ensures turned { Turned port_step (writes log.now) i b held.old result held.new }
-    ensures queue_value { (result.begun.queue ≡ b.queue) × (result.begun.dummy ≡ b.dummy) }
+    ensures queue_kept { (result.begun.queue ≡ b.queue) × (result.begun.dummy ≡ b.dummy) }
 {
     if log.len() / 2 <= i {
         return ends(i, b, 0);
@@ -276,9 +276,9 @@ pub fn turn_at(
 ) -> Turn
     requires table_value { table.now ≡ parameter_table }
     requires fit { Fit b × (i ≤ items_in log (length words.now)) × (length held.old ≡ 32) }
-    requires b_value { log ≡ true → (due_of b ≡ []) × (packed ≡ is_packed b) }
+    requires not_due { log ≡ true → (due_of b ≡ []) × (packed ≡ is_packed b) }
     ensures turned_as { TurnedAs log words.now i b held.old result held.new }
-    ensures queue_value { (log ≡ true → (result.begun.queue ≡ b.queue) × (result.begun.dummy ≡ b.dummy))
+    ensures queue_bounded { (log ≡ true → (result.begun.queue ≡ b.queue) × (result.begun.dummy ≡ b.dummy))
         × (result.command < 256) × (result.begun.queue < 4294967296) }
 {
     if log {

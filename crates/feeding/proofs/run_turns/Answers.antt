@@ -74,8 +74,7 @@ module _ (c : After-operation_of) where
 
   began-first : first_number began (length c.args.vertices.now) (length c.args.polygons.now) ≡ 0
   began-first =
-      first-is given c.args.geometry c.args.stream c.begun_of-begun.result c.held_of-held.result
-      (length c.args.vertices.now) (length c.args.polygons.now)
+      first-is _ c.args.geometry c.args.stream c.begun_of-begun.result c.held_of-held.result _ _
       (ap₂ stream_with c.begun_of-begun.ensures.0 c.held_of-held.ensures.0) c.requires.usable
 
   -- the matrices before the command
@@ -111,7 +110,7 @@ module _ (c : After-operation_of) where
       let l = c.loop-clip in
       let a = c.args in
       let call = c.turn_at-turn in
-      let small = call.ensures.queue_value in
+      let small = call.ensures.queue_bounded in
       record {
         looping = looping-ran began a.vertices.now a.polygons.now began-first
             a.words.now l.i l.begun l.work.held before-it call.result held a.log
@@ -131,32 +130,25 @@ is_packed-packed-requires c = c.requires.table_value
 
 pub loop-clip-init : goal.loop-clip-init
 loop-clip-init c =
-    let m = matrices_from c.args.given c.args.position.now c.args.vector.now c.args.positions.now c.args.vectors.now
-    c.args.projection.now c.args.projection_slot.now c.args.texture.now c.args.texture_slot.now in
-    let same : stream_with c.begun_of-begun.result c.held_of-held.result ≡ c.args.stream =
-    ap₂ stream_with c.begun_of-begun.ensures.0 c.held_of-held.ensures.0 in
-    let e = begins m c.args.geometry c.begun_of-begun.result c.held_of-held.result in
-    let first = first-is m c.args.geometry c.args.stream c.begun_of-begun.result c.held_of-held.result
-    (length c.args.vertices.now) (length c.args.polygons.now) same c.requires.usable in
-    let small : e.stream.queue < 2 ^ 32 =
-    omega (arith, c.begun_of-begun.ensures.1, ap (λ (b : Begun). b.queue) c.begun_of-begun.ensures.0) in
+    let b = c.begun_of-begun in
+    let h = c.held_of-held in
+    let first = first-is _ c.args.geometry c.args.stream b.result h.result _ _ (ap₂ stream_with b.ensures.0 h.ensures.0)
+    c.requires.usable in
+    let small : (stream_with b.result h.result).queue < 2 ^ 32 =
+    omega (arith, b.ensures.1, ap (λ (b : Begun). b.queue) b.ensures.0) in
     record {
-      looping = looping-first e c.args.vertices.now c.args.polygons.now first c.args.log
-          c.is_packed-packed.result c.args.words.now c.held_of-held.ensures.1 small c.is_packed-packed.ensures;
+      looping = looping-first _ c.args.vertices.now c.args.polygons.now first c.args.log
+          c.is_packed-packed.result c.args.words.now h.ensures.1 small c.is_packed-packed.ensures;
       clip_is = λ t. absurd (false≢true t);
-      held-long = c.held_of-held.ensures.1;
+      held-long = h.ensures.1;
       positions-long = c.requires.positions_len.0;
       vectors-long = c.requires.positions_len.1;
-      untouched = λ z. (
-        first-due e.stream c.held_of-held.ensures.1 small
-            (passed e (length c.args.vertices.now) (length c.args.polygons.now) first).stream,
-        refl,
-      );
+      untouched = λ z. (first-due _ h.ensures.1 small (passed _ _ _ first).stream, refl);
     }
 
 pub turn_at-turn-requires : goal.turn_at-turn-requires
 turn_at-turn-requires c =
-    record { table_value = c.requires.table_value; fit = (c.loop-clip.invariant.looping.fit, c.loop-clip.invariant.looping.within, c.loop-clip.invariant.held-long); b_value = λ t. (c.loop-clip.invariant.looping.log_due t, c.loop-clip.invariant.looping.log_packed t) }
+    record { table_value = c.requires.table_value; fit = (c.loop-clip.invariant.looping.fit, c.loop-clip.invariant.looping.within, c.loop-clip.invariant.held-long); not_due = λ t. (c.loop-clip.invariant.looping.log_due t, c.loop-clip.invariant.looping.log_packed t) }
 
 pub run_stack-levels-requires : goal.run_stack-levels-requires
 run_stack-levels-requires c =
@@ -293,42 +285,36 @@ shape_of-polygons c =
 
 pub returns : goal.returns
 returns c =
-    let m = matrices_from c.args.given c.args.position.now c.args.vector.now c.args.positions.now c.args.vectors.now
-    c.args.projection.now c.args.projection_slot.now c.args.texture.now c.args.texture_slot.now in
-    let same : stream_with c.begun_of-begun.result c.held_of-held.result ≡ c.args.stream =
-    ap₂ stream_with c.begun_of-begun.ensures.0 c.held_of-held.ensures.0 in
-    let e = begins m c.args.geometry c.begun_of-begun.result c.held_of-held.result in
-    let first = first-is m c.args.geometry c.args.stream c.begun_of-begun.result c.held_of-held.result
-    (length c.args.vertices.now) (length c.args.polygons.now) same c.requires.usable in
-    let current = matrices_from c.loop-clip.levels c.loop-clip.position c.loop-clip.vector c.loop-clip.positions
-    c.loop-clip.vectors c.loop-clip.projection c.loop-clip.projection_slot c.loop-clip.texture
-    c.loop-clip.texture_slot in
+    let a = c.args in
+    let l = c.loop-clip in
+    let same = ap₂ stream_with c.begun_of-begun.ensures.0 c.held_of-held.ensures.0 in
+    let began-is = begins-is _ a.geometry a.stream c.begun_of-begun.result c.held_of-held.result same in
+    let first = first-is _ a.geometry a.stream c.begun_of-begun.result c.held_of-held.result _ _ same c.requires.usable in
+    let current =
+    matrices_from l.levels l.position l.vector l.positions l.vectors l.projection l.projection_slot l.texture
+    l.texture_slot in
     let r = c.turn_at-turn.result in
     let told = c.turn_at-turn.ensures in
     let new = c.turn_at-turn.new.held in
-    let t : Buffered Core = buffered (core_from current c.loop-clip.work.geometry) c.loop-clip.vertices c.loop-clip.polygons in
+    let t : Buffered Core = buffered (core_from current l.work.geometry) l.vertices l.polygons in
     let end = c.if-turn.true in
     record {
       is =
-          ap (λ (x : Stream). fed r.next r.number (machine_of (engine_from current c.loop-clip.work.geometry x)
-          c.loop-clip.vertices c.loop-clip.polygons))
-          c.stream_of.ensures
+          ap (λ (x : Stream). fed r.next r.number (machine_of (engine_from current l.work.geometry x) l.vertices
+          l.polygons)) c.stream_of.ensures
           ∙ ap (λ (p : Pending). fed r.next r.number (machine t p))
-          (end-pending r.begun new told.queue_value.2
-          (end-fit e c.args.vertices.now c.args.polygons.now first c.args.words.now c.loop-clip.i c.loop-clip.begun c.loop-clip.work.held t r
-          new c.args.log told.turned_as)
-          (end-due e c.args.vertices.now c.args.polygons.now first c.args.words.now c.loop-clip.i c.loop-clip.begun c.loop-clip.work.held t r
-          new c.args.log told.turned_as end)
-          _ refl)
-          ∙ ended_as e c.args.vertices.now c.args.polygons.now first c.args.words.now c.loop-clip.i c.loop-clip.begun c.loop-clip.work.held t r
-          new c.args.log
-          c.loop-clip.invariant.looping told.turned_as end
-          ∙ ap (λ (e : Engine). feed_as c.args.log (machine_of e c.args.vertices.now c.args.polygons.now) c.args.words.now)
-          (begins-is m c.args.geometry c.args.stream c.begun_of-begun.result c.held_of-held.result same);
+          (end-pending r.begun new told.queue_bounded.2
+          (end-fit _ a.vertices.now a.polygons.now first a.words.now l.i l.begun l.work.held t r new a.log
+          told.turned_as)
+          (end-due _ a.vertices.now a.polygons.now first a.words.now l.i l.begun l.work.held t r new a.log
+          told.turned_as end) _ refl)
+          ∙ ended_as _ a.vertices.now a.polygons.now first a.words.now l.i l.begun l.work.held t r new a.log
+          l.invariant.looping told.turned_as end
+          ∙ ap (λ (e : Engine). feed_as a.log (machine_of e a.vertices.now a.polygons.now) a.words.now) began-is;
       given_back = λ n z.
-          ap (engine_from current c.loop-clip.work.geometry) c.stream_of.ensures
-          ∙ ended_untouched e c.args.vertices.now c.args.polygons.now first c.args.words.now c.loop-clip.i c.loop-clip.begun
-          c.loop-clip.work.held t r new c.args.log told.turned_as end n z current c.loop-clip.work.geometry c.loop-clip.invariant.untouched
-          c.loop-clip.invariant.held-long told.queue_value.2
-          ∙ begins-is m c.args.geometry c.args.stream c.begun_of-begun.result c.held_of-held.result same;
+          ap (engine_from current l.work.geometry) c.stream_of.ensures
+          ∙ ended_untouched _ a.vertices.now a.polygons.now first a.words.now l.i l.begun l.work.held t r new a.log
+          told.turned_as end n z current l.work.geometry l.invariant.untouched l.invariant.held-long
+          told.queue_bounded.2
+          ∙ began-is;
     }

@@ -26,7 +26,7 @@ pub returns-then-takes-eq0 : goal.returns-then-takes-eq0
 returns-then-takes-eq0 c = record {
   turned = write-none c.requires.writable
       (sym c.count_in-takes.ensures ∙ c.if-takes-eq0.true) c.runs.ensures;
-  queue_value = same-packed c.runs.ensures;
+  queue_kept = same-packed c.runs.ensures;
 }
 
 pub overflow_sub-lacks : goal.overflow_sub-lacks
@@ -46,7 +46,7 @@ returns-then-lacks-eq1 c =
     (write-is c.args.log.now c.args.i t.inside) in record {
       turned = write-last t (takes (goal.at.returns-then-lacks-eq1 c).Else-takes-eq0) 1 (omega arith) (omega (arith, t.inside)) one
           (omega (arith, few (goal.at.returns-then-lacks-eq1 c).Else-takes-eq0, c.count_in-takes.ensures, c.if-lacks-eq1.true)) c.runs-then-lacks-eq1.ensures;
-      queue_value = same-packed c.runs-then-lacks-eq1.ensures;
+      queue_kept = same-packed c.runs-then-lacks-eq1.ensures;
     }
 
 pub hold_writes-many-requires : goal.hold_writes-many-requires
@@ -69,7 +69,7 @@ returns-then-many-lacks c =
           (inside (goal.at.returns-then-many-lacks c).After-hold_writes-many)
           c.hold_writes-many.ensures.held
           (omega (arith, few (goal.at.returns-then-many-lacks c).Else-takes-eq0, c.count_in-takes.ensures, c.if-many-lacks.true)) c.runs-then-many-lacks.ensures;
-      queue_value = same-packed c.runs-then-many-lacks.ensures;
+      queue_kept = same-packed c.runs-then-many-lacks.ensures;
     }
 
 pub returns : goal.returns
@@ -80,5 +80,5 @@ returns c =
           c.hold_writes-many.ensures.held
           (omega (arith, few (goal.at.returns c).Else-takes-eq0, c.count_in-takes.ensures, c.if-many-lacks.false, lacking (goal.at.returns c).After-hold_writes-many))
           c.goes_on.ensures;
-      queue_value = same-packed c.goes_on.ensures;
+      queue_kept = same-packed c.goes_on.ensures;
     }
