@@ -1,6 +1,6 @@
 use mathlib.Core.Path.{refl}
 use Rattle.state.specs.Sound.{sound_transform}
-use Rattle.state.proofs.is_sound_transform.Goals as goal
+use Rattle.state.proofs.Transform.is_sound.Goals as goal
 
 pub returns : goal.returns
 unfolding sound_transform

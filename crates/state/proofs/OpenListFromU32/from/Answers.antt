@@ -1,8 +1,7 @@
-use mathlib.Core.Path.{sym, ap}
+use mathlib.Core.Path.{sym}
 use Rattle.state.specs.List.{list_of}
-use Rattle.state.specs.Sound.{needed}
 use Rattle.state.proofs.ListLaws.{closed_else}
-use Rattle.state.proofs.needed_by.Goals as goal
+use Rattle.state.proofs.OpenListFromU32.from.Goals as goal
 
 pub returns-in-1 : goal.returns-in-1
 unfolding list_of
@@ -27,4 +26,4 @@ returns-in-5 c = simp c.in-5.is
 pub returns-in_default : goal.returns-in_default
 returns-in_default c =
     let rest = c.in_default.in_default-own.rest in
-    sym (ap needed (closed_else _ rest.0.0.0.0.1 rest.0.0.0.1 rest.0.0.1 rest.0.1 rest.1))
+    sym (closed_else _ rest.0.0.0.0.1 rest.0.0.0.1 rest.0.0.1 rest.0.1 rest.1)

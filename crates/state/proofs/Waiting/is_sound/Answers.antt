@@ -1,5 +1,5 @@
 use Rattle.state.specs.Sound.{sound_waiting}
-use Rattle.state.proofs.is_sound_waiting.Goals as goal
+use Rattle.state.proofs.Waiting.is_sound.Goals as goal
 
 pub returns : goal.returns
 unfolding sound_waiting
@@ -8,7 +8,8 @@ returns c =
       c.is_coloured-3.ensures,
       c.is_coloured-2.ensures,
       c.is_coloured.ensures,
-      c.needed_by.ensures,
+      c.needed.ensures,
       c.is_closed.ensures,
+      c.from-list.ensures,
       c.is_list.ensures,
     )
