@@ -1,6 +1,6 @@
 -- Text put into a buffer piece by piece.
 use mathlib.Core.List.{List, [], ◌++◌, append_assoc}
-use mathlib.Core.Path.{◌≡◌, refl}
+use mathlib.Core.Path.{◌≡◌, refl, ◌∙◌}
 use Prim.Native.Nat.{ℕ, ◌+◌, ◌-◌, ◌≤◌}
 use native.Mathlib.Nat.{add_assoc, add-zero}
 use native.Mathlib.Omega.{arith}
@@ -46,6 +46,15 @@ module _ (text : Text) where
   pub with_bytes-none : with_bytes text [] ≡ text
   unfolding with_bytes
   with_bytes-none = rw add-zero
+
+-- a put keeps the buffer's length
+pub puts_kept : (a : Text) (xs : List ℕ) {b : Text} → b ≡ with_bytes a xs → length b.buffer.now ≡ length a.buffer.now
+puts_kept a xs p = rw p (length-buffer a xs)
+
+-- two puts, one behind the other, are one put of both
+pub puts_both : (a : Text) (xs ys : List ℕ) {b c : Text} → b ≡ with_bytes a xs → c ≡ with_bytes b ys
+    → c ≡ with_bytes a (xs ++ ys)
+puts_both a xs ys p q = q ∙ rw p (with_bytes-twice a xs ys)
 
 pub ruleset put_rules = (
   same_buffer,
