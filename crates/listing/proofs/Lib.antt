@@ -1,3 +1,3 @@
-pub mod PutLaws
 pub mod NumberLaws
 pub mod LineLaws
+pub mod PutLaws

@@ -1,43 +1,79 @@
 -- Text put into a buffer piece by piece.
-use mathlib.Core.List.{List, [], ◌∷◌, ◌++◌}
-use mathlib.Core.Path.{◌≡◌, refl, sym, ap, ◌∙◌}
-use Prim.Native.Nat.{ℕ, ◌+◌, ◌≤◌, ◌<◌}
+use mathlib.Core.List.{List, [], ◌++◌, append_assoc}
+use mathlib.Core.Path.{◌≡◌, refl, ◌∙◌}
+use Prim.Native.Nat.{ℕ, ◌+◌, ◌-◌, ◌≤◌}
+use native.Mathlib.Nat.{add_assoc, add-zero}
 use native.Mathlib.Omega.{arith}
-use lib.ListN.{length, get_or, take, set, length-append}
-use lib.Seq.{length-sets, length-take-le}
-use Rattle.io.specs.Counts.{IsPrefixLen}
-use Rattle.words.specs.Words.{over}
-use Rattle.words.proofs.Over.{sets-append, sets_over, take_next}
-use Rattle.listing.specs.Buffer.{Puts}
+use lib.ListN.{length, length-append}
+use lib.Seq.{sets, sets-eq, length-sets, drop-drop}
+use borrow.Rule.Slice.PartMut.{put_mid}
+use Rattle.words.proofs.Over.{sets-append}
+use Rattle.listing.specs.declared.Text.{Text}
+use Rattle.listing.specs.Buffer.{with_bytes}
+use Rattle.listing.proofs.NumberLaws.{length-decimal, length-hex, decimal-written, hex-digits}
+use Rattle.listing.proofs.LineLaws.{lines-append, length-write_line, length-word_line, length-number_line}
+use Rattle.listing.proofs.LineLaws.{length-write_lines, length-word_lines, length-refused_line, length-pair_lines}
+use Rattle.listing.proofs.LineLaws.{lines-of-pairs}
+use Rattle.stream.proofs.UnpackLaws.{length-writes}
+
+-- bytes stored by `copy_from_slice` in the part from a place on
+pub stored : (l bytes new : List ℕ) (at : ℕ) → at + length bytes ≤ length l → new ≡ bytes
+    → put_mid at (at + length bytes - at) l new ≡ sets l at bytes
+stored l bytes new at h e =
+    let size : at + length bytes - at ≡ length bytes = omega arith in
+    rw (e, sets-eq bytes l at h, size, drop-drop, append_assoc)
+
+module _ (text : Text) where
+  -- the buffer is the one that was lent
+  pub same_buffer : (bytes : List ℕ) → (with_bytes text bytes).buffer.ghost_name ≡ text.buffer.ghost_name
+  unfolding with_bytes
+  same_buffer bytes = refl
+
+  pub length-with_bytes : (bytes : List ℕ) → (with_bytes text bytes).length ≡ text.length + length bytes
+  unfolding with_bytes
+  length-with_bytes bytes = refl
+
+  pub length-buffer : (bytes : List ℕ) → length (with_bytes text bytes).buffer.now ≡ length text.buffer.now
+  unfolding with_bytes
+  length-buffer bytes = length-sets text.buffer.now text.length bytes
+
+  -- bytes put behind others
+  pub with_bytes-twice : (xs ys : List ℕ) → with_bytes (with_bytes text xs) ys ≡ with_bytes text (xs ++ ys)
+  unfolding with_bytes
+  with_bytes-twice xs ys = rw (sets-append text.buffer.now text.length xs ys, length-append xs ys, add_assoc)
+
+  -- no bytes
+  pub with_bytes-none : with_bytes text [] ≡ text
+  unfolding with_bytes
+  with_bytes-none = rw add-zero
 
 -- a put keeps the buffer's length
-pub puts_kept : {new : List ℕ} {at next : ℕ} {old text : List ℕ} → Puts new at next old text → length text ≡ length old
-puts_kept {new} {at} {next} {old} p = rw p.text-is (length-sets old at new)
+pub puts_kept : (a : Text) (xs : List ℕ) {b : Text} → b ≡ with_bytes a xs → length b.buffer.now ≡ length a.buffer.now
+puts_kept a xs p = rw p (length-buffer a xs)
 
 -- two puts, one behind the other, are one put of both
-pub puts_both : {xs ys : List ℕ} {a b c : ℕ} {old mid text : List ℕ} → Puts xs a b old mid → Puts ys b c mid text
-    → Puts (xs ++ ys) a c old text
-puts_both {xs} {ys} {a} {b} {c} {old} p q = record {
-  next-is = omega (arith, p.next-is, q.next-is, length-append xs ys);
-  text-is = q.text-is ∙ rw (p.text-is, p.next-is) (sym (sets-append old a xs ys));
-}
+pub puts_both : (a : Text) (xs ys : List ℕ) {b c : Text} → b ≡ with_bytes a xs → c ≡ with_bytes b ys
+    → c ≡ with_bytes a (xs ++ ys)
+puts_both a xs ys p q = q ∙ rw p (with_bytes-twice a xs ys)
 
--- one turn of a loop that stores bytes one by one
-pub puts_next : (l : List ℕ) (i at : ℕ) {old text : List ℕ} → Puts (take i l) at (at + i) old text → i < length l
-    → Puts (take (i + 1) l) at (at + (i + 1)) old (set text (at + i) (get_or l i 0))
-puts_next l i at {old} {text} p h =
-    let v = get_or l i 0 in
-    let q : Puts (v ∷ []) (at + i) (at + (i + 1)) text (set text (at + i) v) = record {
-      next-is = omega arith;
-      text-is = refl;
-    } in
-    rw (take_next l i 0 h) (puts_both p q)
-
--- the report, put at the start of a buffer that is long enough: its length, and what the buffer holds
-pub reported : {new report : List ℕ} {next : ℕ} {old text : List ℕ} → new ≡ report → Puts new 0 next old text
-    → length new ≤ length old → (next ≡ length report) × ((text ≡ over report old) × IsPrefixLen next text)
-reported {new} {report} {next} {old} {text} e p h =
-    let m : next ≤ length text = omega (arith, puts_kept p, p.next-is) in
-    let n : next ≡ length report = omega (arith, p.next-is, ap length e) in
-    let t : text ≡ over report old = p.text-is ∙ rw e (sets_over old report (omega (arith, ap length e))) in
-    (n, (t, (m, sym (length-take-le next text m))))
+pub ruleset put_rules = (
+  same_buffer,
+  length-with_bytes,
+  length-buffer,
+  with_bytes-twice,
+  with_bytes-none,
+  length-decimal,
+  length-hex,
+  decimal-written,
+  hex-digits,
+  lines-append,
+  length-write_line,
+  length-word_line,
+  length-number_line,
+  length-write_lines,
+  length-word_lines,
+  length-refused_line,
+  length-pair_lines,
+  lines-of-pairs,
+  length-writes,
+)

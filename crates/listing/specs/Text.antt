@@ -43,7 +43,7 @@ abbrev pub word_lines : List ℕ → List ℕ
 word_lines = lines_of word_line
 
 -- a name with the space behind it, a number in decimal, and the line's end
-abbrev pub number_line : List ℕ → ℕ → List ℕ
+unfoldable pub number_line : List ℕ → ℕ → List ℕ
 number_line name n = name ++ decimal n ++ ascii "\n"
 
 -- "ports 2", and a line for each port write

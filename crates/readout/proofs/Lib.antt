@@ -1,4 +1,3 @@
 pub mod NumberLaws
 pub mod ChunkLaws
-pub mod RecordLaws
 pub mod ReadoutLaws

@@ -2,26 +2,32 @@
 use mathlib.Core.Bool.{true, false}
 use mathlib.Core.List.{List, [], ◌∷◌}
 use mathlib.Core.Path.{◌≡◌}
-use Prim.Native.Nat.{ℕ, ◌+◌, ◌≤◌}
+use Prim.Native.Nat.{ℕ, ◌*◌, ◌≤◌}
 use native.Mathlib.Omega.{arith}
 use lib.IntN.{ℤ, pos}
 use lib.ListN.{length, get_or, drop, length-append, length-drop}
+use Rattle.stream.specs.Pending.{Pending, is_pending}
 use Rattle.listing.specs.Text.{ascii}
-use Rattle.listing.specs.Buffer.{Puts}
 use Rattle.listing.proofs.NumberLaws.{length-decimal, length-hex}
-use Rattle.listing.proofs.LineLaws.{length-word_line}
+use Rattle.listing.proofs.LineLaws.{length-word_line, length-number_line}
+use Rattle.listing.proofs.PutLaws.{put_rules}
+use Rattle.registers.specs.Registers.{status_word}
+use Rattle.state.specs.List.{list_of}
 use Rattle.state.specs.declared.OpenList.{OpenList}
 use Rattle.state.specs.declared.OpenList.TheVariants.{Closed, Triangles, Quads, TriangleStrip, QuadStrip}
 use Rattle.state.specs.declared.Coordinates.{Coordinates}
+use Rattle.state.specs.declared.Transform.{Transform}
+use Rattle.state.specs.declared.Geometry.{Geometry}
 use Rattle.readout.specs.Numbers.{signed_text, numbers_line}
-use Rattle.readout.specs.Readout.{levels_line, attributes_line, position_line, list_line, vertex_line}
-use Rattle.readout.specs.Readout.{polygon_line}
-use Rattle.readout.proofs.NumberLaws.{length-signed, length-numbers_line}
+use Rattle.readout.specs.Readout.{flag, levels_line, attributes_line, position_line, list_line, vertex_line}
+use Rattle.readout.specs.Readout.{polygon_line, polygon_lines, transform_text, geometry_text, pending_line}
+use Rattle.readout.proofs.NumberLaws.{length-signed, length-spaced_number, length-spaced, length-numbers_line}
+use Rattle.readout.proofs.NumberLaws.{signed-written, length-pieces}
 
 pub length-levels_line : (s p t : ℕ) → length (levels_line s p t) ≤ 40
 unfolding levels_line
 length-levels_line s p t =
-    simp length-append (omega (arith, length-decimal s, length-decimal p, length-decimal t))
+    simp length-append (omega (arith, length-decimal s, length-decimal p, length-number_line (ascii " ") t))
 
 pub length-attributes_line : (a b : ℕ) → length (attributes_line a b) ≡ 29
 unfolding attributes_line
@@ -40,6 +46,34 @@ length-list_line (TriangleStrip true) = omega arith
 length-list_line (TriangleStrip false) = omega arith
 length-list_line QuadStrip = omega arith
 
+pub length-transform_text : (t : Transform) → length (transform_text t) ≤ 72
+unfolding transform_text
+length-transform_text t =
+    simp length-append
+    (omega (
+      arith,
+      length-word_line (status_word t),
+      length-number_line (ascii "mode ") t.mode,
+      length-levels_line t.pair.level t.projection.level t.texture.level,
+    ))
+
+pub length-geometry_text : (g : Geometry) → length (geometry_text g) ≤ 137
+unfolding geometry_text
+length-geometry_text g =
+    simp length-append
+    (omega (
+      arith,
+      length-number_line (ascii "overflow ") (flag g.overflow),
+      length-number_line (ascii "colour ") g.colour,
+      length-attributes_line g.given g.attributes,
+      length-position_line g.position,
+      length-list_line (list_of g.waiting.list),
+    ))
+
+pub length-pending_line : (p : Pending) → length (pending_line p) ≤ 19
+unfolding pending_line
+length-pending_line p = length-number_line (ascii "pending ") (flag (is_pending p))
+
 -- a vertex of five numbers
 pub length-vertex_line : (v : List ℤ) → length v ≡ 5 → length (vertex_line v) ≤ 60
 unfolding vertex_line
@@ -52,31 +86,30 @@ length-vertex_line v h =
       length-drop 1 v,
     )
 
-pub vertex-end : (v : List ℤ) {at next : ℕ} {old text : List ℕ} → length v ≡ 5
-    → Puts (vertex_line v) at next old text → next ≤ at + 60
-vertex-end v h p = omega (arith, p.next-is, length-vertex_line v h)
-
 pub length-polygon_line : (p : List ℕ) → length (polygon_line p) ≤ 31
 unfolding polygon_line
 length-polygon_line p =
     simp length-append
     (omega (arith, length-decimal (get_or p 0 0), length-decimal (get_or p 1 0), length-word_line (get_or p 2 0)))
 
-pub polygon_end : (v : List ℕ) {at next : ℕ} {old text : List ℕ} → Puts (polygon_line v) at next old text
-    → next ≤ at + 31
-polygon_end v p = omega (arith, p.next-is, length-polygon_line v)
+pub length-polygon_lines : (ps : List (List ℕ)) → length (polygon_lines ps) ≤ 31 * length ps
+length-polygon_lines ps = length-pieces polygon_line 31 length-polygon_line ps
 
-pub attributes-end : (a b : ℕ) {at next : ℕ} {old text : List ℕ} → Puts (attributes_line a b) at next old text
-    → next ≡ at + 29
-attributes-end a b p = omega (arith, p.next-is, length-attributes_line a b)
-
-pub position-end : (q : Coordinates) {at next : ℕ} {old text : List ℕ} → Puts (position_line q) at next old text
-    → next ≤ at + 45
-position-end q p = omega (arith, p.next-is, length-position_line q)
-
-pub levels_end : (s p t : ℕ) {at next : ℕ} {old text : List ℕ} → Puts (levels_line s p t) at next old text
-    → next ≤ at + 40
-levels_end s p t q = omega (arith, q.next-is, length-levels_line s p t)
-
-pub list-end : (l : OpenList) {at next : ℕ} {old text : List ℕ} → Puts (list_line l) at next old text → next ≤ at + 25
-list-end l p = omega (arith, p.next-is, length-list_line l)
+pub ruleset text_rules = (
+  put_rules,
+  signed-written,
+  length-signed,
+  length-spaced_number,
+  length-spaced,
+  length-numbers_line,
+  length-levels_line,
+  length-attributes_line,
+  length-position_line,
+  length-list_line,
+  length-transform_text,
+  length-geometry_text,
+  length-pending_line,
+  length-vertex_line,
+  length-polygon_line,
+  length-polygon_lines,
+)

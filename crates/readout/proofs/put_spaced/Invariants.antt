@@ -1,13 +1,7 @@
-use mathlib.Core.Path.{◌≡◌}
-use Prim.Native.Nat.{◌+◌, ◌*◌, ◌-◌, ◌≤◌}
-use lib.ListN.{length, take}
-use Rattle.listing.specs.Buffer.{Puts}
+use Rattle.std.proofs.Common.{◌≡◌, take}
+use Rattle.listing.specs.Buffer.{with_bytes}
 use Rattle.readout.specs.Numbers.{spaced}
 use Rattle.readout.proofs.put_spaced.Given as goal
 
-abbrev pub invariant-loop-i : goal.invariant-loop-i
-invariant-loop-i l = (l.i ≤ length l.numbers) × (l.next ≤ l.at + 12 * l.i) × (length l.text ≡ length l.initial.text)
-    × Puts (spaced (take l.i l.numbers)) l.at l.next l.initial.text l.text
-
-abbrev pub decreases-loop-i : goal.decreases-loop-i
-decreases-loop-i l = length l.numbers - l.i
+abbrev pub invariant-loop-number : goal.invariant-loop-number
+invariant-loop-number l = l.text ≡ with_bytes l.initial.text (spaced (take l.number-index l.numbers))
