@@ -1,7 +1,7 @@
 -- A command word's bytes, the lowest first: its commands are the bytes up to the first that is none.
 use mathlib.Core.Bool.{Bool, true, false}
 use mathlib.Core.List.{List, [], ◌∷◌}
-use mathlib.Core.Path.{◌≡◌, refl, sym, ap, ◌∙◌}
+use mathlib.Core.Path.{◌≡◌, refl, sym, ap}
 use Prim.Native.Nat.{ℕ, ◌+◌, ◌≤◌, ◌<◌}
 use native.Mathlib.Numerals.{add-one}
 use native.Mathlib.Omega.{arith}
@@ -65,10 +65,6 @@ module _ (b : ℕ) (bs : List ℕ) (k : known b ≡ false) where
 
 pub none_known : (bs : List ℕ) → any_known bs ≡ false → commands_in bs ≡ []
 none_known bs = none-behind (map counted bs)
-
-pub no_command_left : (b : ℕ) (bs : List ℕ) → known b ≡ false → holed (b ∷ bs) ≡ false → commands_in (b ∷ bs) ≡ []
-no_command_left b bs k h =
-    none_known (b ∷ bs) (any-of-unknown b bs k ∙ sym (hole-of-unknown b bs k) ∙ h)
 
 -- the bytes from the i-th on
 pub bytes_from : (bs : List ℕ) (i : ℕ) → i < length bs → drop i bs ≡ get_or bs i 0 ∷ drop (i + 1) bs

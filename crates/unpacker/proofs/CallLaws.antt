@@ -1,13 +1,12 @@
 -- What `unpack_from` gives in each case, for the function that computes it.
 use mathlib.Core.List.{List}
-use mathlib.Core.Path.{◌≡◌, refl, ap, ◌∙◌}
+use mathlib.Core.Path.{◌≡◌, refl, ◌∙◌}
 use Prim.Native.Nat.{ℕ, ◌≤◌, ◌<◌}
 use native.Mathlib.Omega.{arith}
 use lib.ListN.{length, drop}
 use borrow.Author.Tests.{lt-ltb, le-ltb}
 use Rattle.std.specs.Prelude.{Ok, Err}
 use Rattle.words.specs.Words.{over}
-use Rattle.stream.specs.declared.OutputAnswer.{OutputAnswer}
 use Rattle.stream.specs.declared.Refusal.{Refusal}
 use Rattle.stream.specs.declared.Refusal.TheVariants.{NotSound, ListTooShort, Hole, OtherKindPending, NoPort, OtherPort}
 use Rattle.stream.specs.declared.Refusal.TheVariants.{NoInput, Incomplete, TooLong, OutputTooShort, NoRoom}

@@ -3,22 +3,23 @@ use mathlib.Core.Bool.{Bool, true, false, cond}
 use mathlib.Core.List.{List, [], ◌∷◌, ◌++◌, append_assoc, append-nil}
 use mathlib.Core.Path.{◌≡◌, refl, sym, ap, ◌∙◌}
 use Prim.Native.Nat.{ℕ, ◌+◌, ◌*◌, ◌/◌, ◌%◌, ◌^◌, ◌≤◌, ◌<◌}
-use mir.Syntax.{w32}
 use native.Mathlib.Numerals.{add-one}
 use native.Mathlib.Omega.{arith}
 use lib.Dec.{eqb}
-use lib.ListN.{length, get_or, take, drop, set, length-set, length-drop}
-use lib.Seq.{sets, length-sets, length-take-le, drop-drop, take-suc, get_or-drop}
-use Rattle.std.specs.Int.{to_le_bytes}
+use lib.ListN.{length, get_or, take, drop, set, length-drop}
+use lib.Seq.{sets, length-sets, length-take-le, drop-drop, take-suc}
+use Rattle.std.specs.Prelude.{Some, None}
 use Rattle.words.specs.Words.{over}
 use Rattle.words.proofs.Over.{sets-append, length_over, over_none, over-more}
-use Rattle.commands.specs.Commands.{known, count, port, command_bytes, hole}
+use Rattle.commands.proofs.Table.{known-range}
+use Rattle.commands.specs.Commands.{lookup, known, count, port, command_bytes, hole}
 use Rattle.stream.specs.Pending.{commands_of}
 use Rattle.stream.specs.Command.{takes_none, Command, command}
 use Rattle.stream.specs.Read.{commands, prepend, list_commands}
 use Rattle.stream.specs.Pack.{count_if}
 use Rattle.stream.specs.Unpack.{writes_to, writes_for, log_of, commands_log}
 use Rattle.stream.proofs.CommandLaws.{none-by-count}
+use Rattle.stream.proofs.QueueLaws.{commands-next, hole-next, commands-none}
 use Rattle.stream.proofs.ReadLaws.{prepend-none, prepend-append, More, behind}
 use Rattle.stream.proofs.UnpackLaws.{writes_to_more, length_writes_log, commands_log_append, length-commands_log}
 use Rattle.stream.proofs.UnpackLaws.{command_log}
@@ -26,7 +27,7 @@ use Rattle.unpacker.specs.declared.Places.{Places}
 use Rattle.unpacker.specs.Inside.{words_behind, commands_from, word_commands, behind_word}
 use Rattle.unpacker.specs.Inside.{values_of, log_from, WordFits, PutWord}
 use Rattle.unpacker.proofs.WordLaws.{list_ended, GoodWord, good_word}
-use Rattle.unpacker.proofs.ByteLaws.{commands_in, holed, word-commands, word-hole, commands-first, hole-behind}
+use Rattle.unpacker.proofs.ByteLaws.{takes, no_command}
 use Rattle.unpacker.proofs.ExtentLaws.{length-command}
 
 -- ---- writes of values to one address: one more, behind the first j
@@ -52,126 +53,135 @@ put_more values a to old new j h e =
         length_writes_log a (take j values)
         ∙ ap (λ (x : ℕ). 2 * x) (length-take-le j values (omega (arith, h)))
 
--- ---- a command word's commands one by one, the bytes `rest` still to come
+-- ---- a command word's commands one by one, with `queue` left of it
 
-pub record PuttingWord (l : List ℕ) (i to : ℕ) (old rest : List ℕ) (next end : ℕ) (dummy : Bool) (new : List ℕ)
+pub record PuttingWord (l : List ℕ) (i to : ℕ) (old : List ℕ) (queue next end : ℕ) (dummy : Bool) (new : List ℕ)
     : Type 0 where
-  pub no_hole : holed rest ≡ false
+  pub small : queue < 2 ^ 32
+  pub no_hole : hole (command_bytes queue) ≡ false
   pub all_there : behind_word l i ≤ length l
   pub room : to + length (commands_log (word_commands l i)) ≤ length old
   pub done : List Command
-  pub left : word_commands l i ≡ done ++ commands_from (commands_in rest) (drop next l)
-  pub next-is : next + words_behind dummy (commands_in rest) ≡ behind_word l i
+  pub left : word_commands l i ≡ done ++ commands_from (commands_of queue) (drop next l)
+  pub next-is : next + words_behind dummy (commands_of queue) ≡ behind_word l i
   pub end_is : end ≡ to + length (commands_log done)
   pub same : length new ≡ length old
   pub buffer : new ≡ sets old to (commands_log done)
 
-pub put_word_start : (l : List ℕ) (i to : ℕ) (old : List ℕ) → WordFits l i to old
-    → PuttingWord l i to old (to_le_bytes w32 (get_or l i 0)) (i + 1) to false old
+pub put_word_start : (l : List ℕ) (i to : ℕ) (old : List ℕ) → get_or l i 0 < 2 ^ 32 → WordFits l i to old
+    → PuttingWord l i to old (get_or l i 0) (i + 1) to false old
 unfolding commands_log word_commands behind_word
-put_word_start l i to old f =
-    let q = word-commands (get_or l i 0) in
-    record {
-      no_hole = word-hole (get_or l i 0) ∙ f.no_hole;
-      all_there = f.all_there;
-      room = f.room;
-      done = [];
-      left = rw q;
-      next-is = rw q;
-      end_is = omega arith;
-      same = refl;
-      buffer = refl;
+put_word_start l i to old s f = record {
+  small = s;
+  no_hole = f.no_hole;
+  all_there = f.all_there;
+  room = f.room;
+  done = [];
+  left = refl;
+  next-is = refl;
+  end_is = omega arith;
+  same = refl;
+  buffer = refl;
+}
+
+-- the first command of a queue, with its parameters from the place `next` on, and the commands behind it
+abbrev first : List ℕ → ℕ → ℕ → Command
+first l next queue = command (queue % 256) (take (count (queue % 256)) (drop next l))
+
+abbrev later : List ℕ → ℕ → ℕ → List Command
+later l next queue = commands_from (commands_of (queue / 256)) (drop (next + count (queue % 256)) l)
+
+module _ {l : List ℕ} {i to : ℕ} {old : List ℕ} {queue next end : ℕ} {dummy : Bool} {new : List ℕ}
+    (p : PuttingWord l i to old queue next end dummy new) where
+  module _ (n : ℕ) (found : Some n ≡ lookup (queue % 256)) where
+    k : known (queue % 256) ≡ true
+    k = (takes (queue % 256) n found).0
+
+    e : n ≡ count (queue % 256)
+    e = (takes (queue % 256) n found).1
+
+    t : eqb n 0 ≡ takes_none (queue % 256)
+    t = none-by-count (queue % 256) n e
+
+    q : commands_of queue ≡ queue % 256 ∷ commands_of (queue / 256)
+    q = commands-next queue p.small k
+
+    left-more : word_commands l i ≡ p.done ++ first l next queue ∷ later l next queue
+    left-more = p.left ∙ rw (q, drop-drop (count (queue % 256)) next l)
+
+    pub queue-falls : queue / 256 < queue
+    queue-falls = omega (arith, known-range (queue % 256) k)
+
+    pub enough : next + n ≤ length l
+    enough = omega (arith, e, p.next-is, p.all_there, ap (words_behind dummy) q)
+
+    -- its parameters, and what is written to its port
+    abbrev given : List ℕ
+    given = take n (drop next l)
+
+    length-given : length given ≡ n
+    length-given = length-take-le n (drop next l) (omega (arith, enough, length-drop next l))
+
+    values-given : values_of given ≡ cond (takes_none (queue % 256)) (0 ∷ []) given
+    values-given = rw (length-given, t)
+
+    length-values : length (values_of given) ≡ writes_for n
+    unfolding writes_for
+    length-values = rw length-given (by (eqb n 0))
+      where
+        by : (t : Bool) → length (cond t (0 ∷ []) given) ≡ cond t 1 n
+        by true = refl
+        by false = length-given
+
+    length-one : length (commands_log (first l next queue ∷ [])) ≡ 2 * writes_for n
+    length-one =
+        rw e (length-command (queue % 256) (take (count (queue % 256)) (drop next l))
+        (length-take-le (count (queue % 256)) (drop next l) (omega (arith, e, enough, length-drop next l))))
+
+    pub command-room : end + 2 * length (values_of given) ≤ length new
+    command-room =
+        omega (
+          arith,
+          p.end_is,
+          p.room,
+          p.same,
+          length-values,
+          ap (λ (x : List Command). length (commands_log x)) left-more,
+          length-one,
+          length-commands_log p.done (first l next queue ∷ later l next queue),
+          length-commands_log (first l next queue ∷ []) (later l next queue),
+        )
+
+    pub put_word_more : (end' : ℕ) (new' : List ℕ) → end' ≡ end + 2 * length (values_of given)
+        → new' ≡ sets new end (log_of (writes_to (port (queue % 256)) (values_of given)))
+        → PuttingWord l i to old (queue / 256) (next + n) end' (eqb n 0) new'
+    put_word_more end' new' f g = record {
+      small = omega (arith, p.small);
+      no_hole = sym (hole-next queue p.small k) ∙ p.no_hole;
+      all_there = p.all_there;
+      room = p.room;
+      done = p.done ++ first l next queue ∷ [];
+      left = left-more ∙ rw e (sym (append_assoc p.done (first l next queue ∷ []) (later l next queue)));
+      next-is = rw t (omega (arith, e, p.next-is, ap (words_behind dummy) q));
+      end_is = omega (arith, f, length-values, p.end_is, length-one, length-commands_log p.done (first l next queue ∷ []));
+      same = ap length g ∙ length-sets new end (log_of (writes_to (port (queue % 256)) (values_of given))) ∙ p.same;
+      buffer = g ∙ sym (ap (sets old to) (commands_log_append p.done (first l next queue ∷ []))
+          ∙ sets-append old to (commands_log p.done) (commands_log (first l next queue ∷ []))
+          ∙ rw (← p.end_is, ← p.buffer, command_log (queue % 256) (first l next queue).parameters, ← e, ← values-given));
     }
 
--- a command with its parameters from the place `next` on, and the commands behind it
-abbrev first : List ℕ → ℕ → ℕ → Command
-first l next b = command b (take (count b) (drop next l))
+  module _ (ended : None ≡ lookup (queue % 256)) where
+    none_left : commands_of queue ≡ []
+    none_left = commands-none queue (no_command (queue % 256) ended) p.no_hole
 
-abbrev later : List ℕ → ℕ → ℕ → List ℕ → List Command
-later l next b rest = commands_from (commands_in rest) (drop (next + count b) l)
-
-module _ {l : List ℕ} {i to : ℕ} {old : List ℕ} {b : ℕ} {rest : List ℕ} {next end : ℕ} {dummy : Bool} {new : List ℕ}
-    (p : PuttingWord l i to old (b ∷ rest) next end dummy new) (k : known b ≡ true) (n : ℕ) (e : n ≡ count b) where
-  t : eqb n 0 ≡ takes_none b
-  t = none-by-count b n e
-
-  q : commands_in (b ∷ rest) ≡ b ∷ commands_in rest
-  q = commands-first b rest k
-
-  left-more : word_commands l i ≡ p.done ++ first l next b ∷ later l next b rest
-  left-more = p.left ∙ rw (q, drop-drop (count b) next l)
-
-  pub enough : next + n ≤ length l
-  enough = omega (arith, e, p.next-is, p.all_there, ap (words_behind dummy) q)
-
-  length-one : length (commands_log (first l next b ∷ [])) ≡ 2 * writes_for n
-  length-one =
-      rw e (length-command b (take (count b) (drop next l))
-      (length-take-le (count b) (drop next l) (omega (arith, e, enough, length-drop next l))))
-
-  -- its parameters, and what is written to its port
-  abbrev given : List ℕ
-  given = take n (drop next l)
-
-  length-given : length given ≡ n
-  length-given = length-take-le n (drop next l) (omega (arith, enough, length-drop next l))
-
-  values-given : values_of given ≡ cond (takes_none b) (0 ∷ []) given
-  values-given = rw (length-given, t)
-
-  length-values : length (values_of given) ≡ writes_for n
-  unfolding writes_for
-  length-values = rw length-given (by (eqb n 0))
-    where
-      by : (t : Bool) → length (cond t (0 ∷ []) given) ≡ cond t 1 n
-      by true = refl
-      by false = length-given
-
-  pub command-room : end + 2 * length (values_of given) ≤ length new
-  command-room =
-      omega (
-        arith,
-        p.end_is,
-        p.room,
-        p.same,
-        length-values,
-        ap (λ (x : List Command). length (commands_log x)) left-more,
-        length-one,
-        length-commands_log p.done (first l next b ∷ later l next b rest),
-        length-commands_log (first l next b ∷ []) (later l next b rest),
-      )
-
-  pub put_word_more : (end' : ℕ) (new' : List ℕ) → end' ≡ end + 2 * length (values_of given)
-      → new' ≡ sets new end (log_of (writes_to (port b) (values_of given)))
-      → PuttingWord l i to old rest (next + n) end' (eqb n 0) new'
-  put_word_more end' new' f g = record {
-    no_hole = sym (hole-behind b rest k) ∙ p.no_hole;
-    all_there = p.all_there;
-    room = p.room;
-    done = p.done ++ first l next b ∷ [];
-    left = left-more ∙ rw e (sym (append_assoc p.done (first l next b ∷ []) (later l next b rest)));
-    next-is = rw t (omega (arith, e, p.next-is, ap (words_behind dummy) q));
-    end_is = omega (arith, f, length-values, p.end_is, length-one, length-commands_log p.done (first l next b ∷ []));
-    same = ap length g ∙ length-sets new end (log_of (writes_to (port b) (values_of given))) ∙ p.same;
-    buffer = g ∙ sym (ap (sets old to) (commands_log_append p.done (first l next b ∷ []))
-        ∙ sets-append old to (commands_log p.done) (commands_log (first l next b ∷ []))
-        ∙ rw (← p.end_is, ← p.buffer, command_log b (first l next b).parameters, ← e, ← values-given));
-  }
-
--- no command is left
-module _ {l : List ℕ} {i to : ℕ} {old rest : List ℕ} {next end : ℕ} {dummy : Bool} {new : List ℕ}
-    (p : PuttingWord l i to old rest next end dummy new) (none : commands_in rest ≡ []) where
-  pub word_end : (n : ℕ) → n ≡ count_if dummy 0 → next + n ≤ length l
-  word_end n e = omega (arith, e, p.next-is, p.all_there, ap (words_behind dummy) none)
-
-  pub put_word_end : (n : ℕ) → n ≡ count_if dummy 0 → PutWord l i to old new (record { next = next + n; to = end })
-  put_word_end n e =
-      let d : word_commands l i ≡ p.done = p.left ∙ rw none (append-nil p.done) in
-      record {
-        next = omega (arith, e, p.next-is, ap (words_behind dummy) none);
-        end = p.end_is ∙ rw d;
-        buffer = p.buffer ∙ rw d;
-      }
+    pub put_word_end : (n : ℕ) → n ≡ count_if dummy 0 → PutWord l i to old new (record { next = next + n; to = end })
+    put_word_end n e =
+        let d : word_commands l i ≡ p.done = p.left ∙ rw none_left (append-nil p.done) in
+        record {
+          next = omega (arith, e, p.next-is, ap (words_behind dummy) none_left);
+          end = p.end_is ∙ rw d;
+          buffer = p.buffer ∙ rw d;
+        }
 
 -- ---- a list's command words one by one
 

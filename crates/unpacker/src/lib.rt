@@ -84,25 +84,26 @@ fn measure(words: &[u32], place: usize) -> Result<u32, Refused>
     Ok(total as u32)
 }
 
-// What is written to the port of a command with these parameters: 0 where it has none.
-fn values_of(parameters: &[u32]) -> &[u32]
-    ensures { result.now ≡ values_of parameters.now }
-{
-    if parameters.is_empty() { &[0] } else { parameters }
-}
-
-// Writes of these values to a command's port, into the buffer from `to` on; where the next goes.
-fn put_writes(byte: u8, values: &[u32], buffer: &mut [u32], to: usize) -> usize
-    requires { to + 2 * length values.now ≤ length buffer.old }
-    ensures end { result ≡ to + 2 * length values.now }
-    ensures buffer_after { buffer.new ≡ sets buffer.old to (log_of (writes_to (port byte) values.now)) }
+// The port writes of a command with these parameters, into the buffer from `to` on; where the next goes. "0 for commands
+// without parameters"
+fn put_command(byte: u8, parameters: &[u32], buffer: &mut [u32], to: usize) -> usize
+    requires { to + 2 * length (values_of parameters.now) ≤ length buffer.old }
+    ensures end { result ≡ to + 2 * length (values_of parameters.now) }
+    ensures buffer_after { buffer.new
+        ≡ sets buffer.old to (log_of (writes_to (port byte) (values_of parameters.now))) }
 {
     let address = port_of(byte);
-    for (j, value) in values.iter().enumerate() {
+    if parameters.is_empty() {
+        buffer[to] = address;
+        buffer[to + 1] = 0;
+        return to + 2;
+    }
+    // By index: of a slice that was lent in pairs, as by `as_chunks_mut`, a proof knows the length alone.
+    for (j, value) in parameters.iter().enumerate() {
         buffer[to + 2 * j] = address;
         buffer[to + 2 * j + 1] = *value;
     }
-    to + 2 * values.len()
+    to + 2 * parameters.len()
 }
 
 // The port writes of the commands of the i-th word, a command word of an accepted list, into the buffer from `to` on.
@@ -110,17 +111,17 @@ fn put_word(words: &[u32], i: usize, buffer: &mut [u32], to: usize) -> Places
     requires { WordFits words.now i to buffer.old }
     ensures { PutWord words.now i to buffer.old buffer.new result }
 {
+    let mut queue = words[i];
     let mut next = i + 1;
     let mut end = to;
     let mut dummy = false;
-    for byte in words[i].to_le_bytes() {
-        let Some(count) = parameters(byte) else {
-            break;
-        };
+    // Over the word and not over its bytes: that is unrolled, and 34h took 1.2 times as long.
+    while let Some(count) = parameters((queue % 256) as u8) {
         let behind = next + count as usize;
-        end = put_writes(byte, values_of(&words[next..behind]), buffer, end);
+        end = put_command((queue % 256) as u8, &words[next..behind], buffer, end);
         next = behind;
         dummy = count == 0;
+        queue /= 256;
     }
     Places {
         next: next + usize::from(dummy),
@@ -165,7 +166,7 @@ pub fn unpack_from(words: &[u32], place: usize, output: &mut [u32]) -> Result<u3
 }
 
 // Document 01's list reader: the caller's words, and a place in them.
-#[derive(Clone, Copy)]
+#[derive(Clone, Copy, Debug, PartialEq, Eq)]
 pub struct ListReader<'a> {
     pub words: &'a [u32],
     pub place: usize,
@@ -173,10 +174,10 @@ pub struct ListReader<'a> {
 
 impl<'a> ListReader<'a> {
     // A reader at the first word.
-    pub fn new(words: &'a [u32]) -> ListReader<'a>
+    pub fn new(words: &'a [u32]) -> Self
         ensures { (result.words ≡ words.entry) × (result.place ≡ 0) }
     {
-        ListReader { words, place: 0 }
+        Self { words, place: 0 }
     }
 
     // The list from the reader's place on.

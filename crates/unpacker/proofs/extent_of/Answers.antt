@@ -1,7 +1,6 @@
-use mathlib.Core.Bool.{Bool}
 use mathlib.Core.List.{◌∷◌}
-use mathlib.Core.Path.{◌≡◌, sym, ap, ◌∙◌}
-use Prim.Native.Nat.{ℕ, ◌+◌, ◌<◌}
+use mathlib.Core.Path.{ap, ◌∙◌}
+use Prim.Native.Nat.{◌+◌}
 use native.Mathlib.Omega.{arith}
 use lib.ListN.{length, get_or, drop, drop_of_length-le}
 use Rattle.stream.proofs.UnpackLaws.{writes_for_bounds}
@@ -43,21 +42,21 @@ overflow_add-writes c =
 pub loop-byte-preserved : goal.loop-byte-preserved
 loop-byte-preserved c =
     elim c.match-parameters.branch [
-      in-None w ↦
-        (let s = extent_ended (at-byte (goal.at.loop-byte-preserved c).After-parameters) (no_command _ (w.in-None.ensures)) in
-        record {
-          so_far = rw (w.words-is, w.writes-is, w.dummy-is, w.ended-is) s;
-          words_few = omega arith;
-          writes_few = omega arith;
-        })
-    | in-Some-2 w ↦
-        (let b = takes _ _ (w.in-Some.ensures) in
-        let s = extent_more (at-byte (goal.at.loop-byte-preserved c).After-parameters) b.0 w.if-ended.false _ _ b.1 w.writes_for-writes.ensures in
-        record {
-          so_far = rw (w.words-is, w.writes-is, w.dummy-is, w.ended-is) s;
-          words_few = omega (arith, b.2);
-          writes_few = omega (arith, b.2, w.writes_for-writes.ensures, writes_for_bounds w.in-Some.field-0);
-        })
+      | in-None w ↦
+          (let s = extent_ended (at-byte (goal.at.loop-byte-preserved c).After-parameters) (no_command _ (w.in-None.ensures)) in
+          record {
+            so_far = rw (w.words-is, w.writes-is, w.dummy-is, w.ended-is) s;
+            words_few = omega arith;
+            writes_few = omega arith;
+          })
+      | in-Some-2 w ↦
+          (let b = takes _ _ (w.in-Some.ensures) in
+          let s = extent_more (at-byte (goal.at.loop-byte-preserved c).After-parameters) b.0 w.if-ended.false _ _ b.1 w.writes_for-writes.ensures in
+          record {
+            so_far = rw (w.words-is, w.writes-is, w.dummy-is, w.ended-is) s;
+            words_few = omega (arith, b.2);
+            writes_few = omega (arith, b.2, w.writes_for-writes.ensures, writes_for_bounds w.in-Some.field-0);
+          })
     ]
 
 pub returns : goal.returns
