@@ -2,19 +2,20 @@
 // the fresh engine, the start, and the test that a record is sound. C has the same record.
 #![tactic(auto)]
 
-ghost use Rattle.std.specs.Prelude.{◌≡◌, true, cond, ◌&&◌, eqb};
-ghost use Rattle.commands.specs.Commands.{parameter_table};
+ghost use Rattle.std.specs.Prelude.{◌≡◌, true, cond, eqb};
 ghost use Rattle.stream.specs.Pending.{packed_pending};
-ghost use Rattle.state.specs.List.{is_list, list_of};
-ghost use Rattle.state.specs.With.{with_rooms, answered};
+ghost use Rattle.stream.specs.Refusal.{call_number};
+ghost use Rattle.state.specs.List.{is_list, list_of, number_of};
+ghost use Rattle.state.specs.With.{answered};
 ghost use Rattle.state.specs.Mode.{uses_pair};
 ghost use Rattle.state.specs.Fresh.{fresh_transform, fresh_geometry, fresh_stream, fresh, start};
 ghost use Rattle.state.specs.Fresh.{room_allowed, rooms_allowed};
 ghost use Rattle.state.specs.Sound.{sound_transform, is_closed, needed, coloured, sound_waiting, sound_geometry};
 ghost use Rattle.state.specs.Sound.{pending_of, sound_stream, sound};
 
-use commands::{Table, command_bytes_in, count_in, has_hole, is_known_in, parameter_table};
+use commands::{command_bytes, count, has_hole, is_known};
 use matrix::Matrix;
+use stream::{Refusal, call_number};
 
 // Position and vector: the current matrices, and the level that their two stacks share.
 #[repr(C)]
@@ -184,21 +185,19 @@ fn fresh_transform() -> Transform
     ensures { result ≡ fresh_transform }
 {
     let unit = Matrix::UNIT;
-    let pair = Pair {
-        position: unit,
-        vector: unit,
-        level: 0,
-    };
-    let projection = Single {
+    let single = Single {
         matrix: unit,
         slot: [0; 16],
         level: 0,
     };
-    let texture = projection;
     Transform {
-        pair: pair,
-        projection: projection,
-        texture: texture,
+        pair: Pair {
+            position: unit,
+            vector: unit,
+            level: 0,
+        },
+        projection: single,
+        texture: single,
         mode: 0,
         error: false,
     }
@@ -207,30 +206,26 @@ fn fresh_transform() -> Transform
 fn fresh_geometry() -> Geometry
     ensures { result ≡ fresh_geometry }
 {
-    let position = Coordinates { x: 0, y: 0, z: 0 };
-    let waiting = Waiting {
-        list: 0,
-        first: [0; VERTEX_WIDTH],
-        second: [0; VERTEX_WIDTH],
-        third: [0; VERTEX_WIDTH],
-        count: 0,
-    };
-    let used = Counts {
-        vertices: 0,
-        polygons: 0,
-    };
-    let rooms = Counts {
-        vertices: 1,
-        polygons: 1,
-    };
     Geometry {
         colour: 0,
         given: 0,
         attributes: 0,
-        position: position,
-        waiting: waiting,
-        used: used,
-        rooms: rooms,
+        position: Coordinates { x: 0, y: 0, z: 0 },
+        waiting: Waiting {
+            list: 0,
+            first: [0; VERTEX_WIDTH],
+            second: [0; VERTEX_WIDTH],
+            third: [0; VERTEX_WIDTH],
+            count: 0,
+        },
+        used: Counts {
+            vertices: 0,
+            polygons: 0,
+        },
+        rooms: Counts {
+            vertices: 1,
+            polygons: 1,
+        },
         overflow: false,
     }
 }
@@ -254,28 +249,10 @@ fn room_allowed(limit: usize, n: usize) -> bool
     (1 <= n) & (n <= limit)
 }
 
-fn rooms_allowed(vertices: usize, polygons: usize) -> bool
-    ensures { result ≡ rooms_allowed vertices polygons }
+fn rooms_allowed(rooms: Counts) -> bool
+    ensures { result ≡ rooms_allowed rooms.vertices rooms.polygons }
 {
-    room_allowed(MOST_VERTICES, vertices) & room_allowed(MOST_POLYGONS, polygons)
-}
-
-fn with_rooms(e: Engine, vertices: usize, polygons: usize) -> Engine
-    ensures { result ≡ with_rooms e vertices polygons }
-{
-    let rooms = Counts {
-        vertices: vertices,
-        polygons: polygons,
-    };
-    let mut registers = e.core.registers;
-    let mut geometry = registers.geometry;
-    geometry.rooms = rooms;
-    registers.geometry = geometry;
-    let mut core = e.core;
-    core.registers = registers;
-    let mut n = e;
-    n.core = core;
-    n
+    room_allowed(MOST_VERTICES, rooms.vertices) & room_allowed(MOST_POLYGONS, rooms.polygons)
 }
 
 impl Engine {
@@ -283,24 +260,18 @@ impl Engine {
     pub fn fresh() -> Engine
         ensures { result ≡ fresh }
     {
-        let transform = fresh_transform();
-        let stacks = Stacks {
-            positions: [0; 512],
-            vectors: [0; 512],
-        };
-        let geometry = fresh_geometry();
-        let registers = Registers {
-            transform: transform,
-            geometry: geometry,
-        };
-        let core = Core {
-            registers: registers,
-            stacks: stacks,
-        };
-        let stream = fresh_stream();
         Engine {
-            core: core,
-            stream: stream,
+            core: Core {
+                registers: Registers {
+                    transform: fresh_transform(),
+                    geometry: fresh_geometry(),
+                },
+                stacks: Stacks {
+                    positions: [0; 512],
+                    vectors: [0; 512],
+                },
+            },
+            stream: fresh_stream(),
         }
     }
 
@@ -308,23 +279,33 @@ impl Engine {
     pub fn start(vertices: usize, polygons: usize) -> Answer
         ensures { result ≡ start vertices polygons }
     {
-        let engine = Engine::fresh();
-        if rooms_allowed(vertices, polygons) {
-            answered(0, with_rooms(engine, vertices, polygons))
-        } else {
-            answered(11, engine)
+        let rooms = Counts { vertices, polygons };
+        let mut engine = Engine::fresh();
+        if !rooms_allowed(rooms) {
+            return answered(Some(Refusal::NoRoom), engine);
         }
+        engine.core.registers.geometry.rooms = rooms;
+        answered(None, engine)
+    }
+
+    // Whether the record is sound; the stacks are not looked at.
+    pub fn is_sound(&self) -> bool
+        ensures { result ≡ sound self.now }
+    {
+        self.core.registers.transform.is_sound()
+            & self.core.registers.geometry.is_sound()
+            & self.stream.is_sound()
     }
 }
 
 // An answer whose place is 0.
-pub fn answered(number: u32, engine: Engine) -> Answer
-    ensures { result ≡ answered number engine }
+pub fn answered(refusal: Option<Refusal>, engine: Engine) -> Answer
+    ensures { result ≡ answered (call_number refusal) engine }
 {
     Answer {
-        number: number,
+        number: call_number(refusal),
         place: 0,
-        engine: engine,
+        engine,
     }
 }
 
@@ -335,10 +316,15 @@ pub fn uses_pair(mode: u32) -> bool
     (mode == 1) | (mode == 2)
 }
 
-fn is_sound_transform(t: Transform) -> bool
-    ensures { result ≡ sound_transform t }
-{
-    (t.mode <= 3) & (t.pair.level <= 63) & (t.projection.level <= 1) & (t.texture.level <= 1)
+impl Transform {
+    fn is_sound(&self) -> bool
+        ensures { result ≡ sound_transform self.now }
+    {
+        (self.mode <= 3)
+            & (self.pair.level <= 63)
+            & (self.projection.level <= 1)
+            & (self.texture.level <= 1)
+    }
 }
 
 // Whether the number stands for a list.
@@ -350,37 +336,53 @@ fn is_list(number: u32) -> bool
 
 // The list of a number: 0 closed, 1 triangles, 2 quads, 3 a triangle strip whose next k is even, 4 one whose next k is
 // odd, 5 a quad strip; closed for a number that stands for none, and then the record is not sound.
-pub fn list_of(number: u32) -> OpenList
-    ensures { result ≡ list_of number }
-{
-    match number {
-        1 => OpenList::Triangles,
-        2 => OpenList::Quads,
-        3 => OpenList::TriangleStrip(false),
-        4 => OpenList::TriangleStrip(true),
-        5 => OpenList::QuadStrip,
-        _ => OpenList::Closed,
+impl From<u32> for OpenList {
+    ghost from_gives = { λ number list. list ≡ list_of number };
+
+    fn from(number: u32) -> OpenList {
+        match number {
+            1 => OpenList::Triangles,
+            2 => OpenList::Quads,
+            3 => OpenList::TriangleStrip(false),
+            4 => OpenList::TriangleStrip(true),
+            5 => OpenList::QuadStrip,
+            _ => OpenList::Closed,
+        }
     }
 }
 
-// No list is open; of the list's number, as the next.
-pub fn is_closed(list: u32) -> bool
-    ensures { result ≡ is_closed (list_of list) }
-{
-    (list == 0) | !is_list(list)
+impl From<OpenList> for u32 {
+    ghost from_gives = { λ list number. number ≡ number_of list };
+
+    fn from(list: OpenList) -> u32 {
+        match list {
+            OpenList::Closed => 0,
+            OpenList::Triangles => 1,
+            OpenList::Quads => 2,
+            OpenList::TriangleStrip(false) => 3,
+            OpenList::TriangleStrip(true) => 4,
+            OpenList::QuadStrip => 5,
+        }
+    }
 }
 
-// How many vertices make a polygon of the list; a closed list makes none.
-pub fn needed_by(list: u32) -> usize
-    ensures { result ≡ needed (list_of list) }
-{
-    match list {
-        1 => 3,
-        2 => 4,
-        3 => 3,
-        4 => 3,
-        5 => 4,
-        _ => 0,
+impl OpenList {
+    // No list is open.
+    pub fn is_closed(self) -> bool
+        ensures { result ≡ is_closed self }
+    {
+        matches!(self, OpenList::Closed)
+    }
+
+    // How many vertices make a polygon of the list; a closed list makes none.
+    pub fn needed(self) -> usize
+        ensures { result ≡ needed self }
+    {
+        match self {
+            OpenList::Closed => 0,
+            OpenList::Triangles | OpenList::TriangleStrip(_) => 3,
+            OpenList::Quads | OpenList::QuadStrip => 4,
+        }
     }
 }
 
@@ -392,30 +394,30 @@ fn is_coloured(v: VertexRecord) -> bool
     (0 <= z) & (z < COLOURS as i32)
 }
 
-fn is_sound_waiting(w: Waiting) -> bool
-    ensures { result ≡ sound_waiting w }
-{
-    let list = w.list;
-    let n = w.count;
-    let first = w.first;
-    let second = w.second;
-    let third = w.third;
-    is_list(list)
-        & ((is_closed(list) & (n == 0)) | (n < needed_by(list)))
-        & ((n <= 0) | is_coloured(first))
-        & ((n <= 1) | is_coloured(second))
-        & ((n <= 2) | is_coloured(third))
+impl Waiting {
+    fn is_sound(&self) -> bool
+        ensures { result ≡ sound_waiting self.now }
+    {
+        let list = OpenList::from(self.list);
+        let n = self.count;
+        is_list(self.list)
+            & ((list.is_closed() & (n == 0)) | (n < list.needed()))
+            & ((n <= 0) | is_coloured(self.first))
+            & ((n <= 1) | is_coloured(self.second))
+            & ((n <= 2) | is_coloured(self.third))
+    }
 }
 
-fn is_sound_geometry(g: Geometry) -> bool
-    ensures { result ≡ sound_geometry g }
-{
-    let w = g.waiting;
-    (g.colour < COLOURS)
-        & is_sound_waiting(w)
-        & rooms_allowed(g.rooms.vertices, g.rooms.polygons)
-        & (g.used.vertices <= g.rooms.vertices)
-        & (g.used.polygons <= g.rooms.polygons)
+impl Geometry {
+    fn is_sound(&self) -> bool
+        ensures { result ≡ sound_geometry self.now }
+    {
+        (self.colour < COLOURS)
+            & self.waiting.is_sound()
+            & rooms_allowed(self.rooms)
+            & (self.used.vertices <= self.rooms.vertices)
+            & (self.used.polygons <= self.rooms.polygons)
+    }
 }
 
 // The command that the held parameters belong to: the next one of the queue, else the port's.
@@ -425,46 +427,26 @@ fn first_of(next: u8, port: u8) -> u8
     if next == 0 { port } else { next }
 }
 
-fn is_sound_stream(table: &Table, s: Stream) -> bool
-    requires { table.now ≡ parameter_table }
-    ensures { result ≡ sound_stream s }
-{
-    let bytes = command_bytes_in(table, s.queue);
-    let next = bytes[0];
-    let port = s.port;
-    let held = s.count;
-    let n = count_in(table, first_of(next, port));
-    !has_hole(bytes)
-        & ((held < n) | ((next == 0) & (port == 0) & (held == 0)))
-        & (!s.dummy | (next == 0))
-        & (((next == 0) & !s.dummy) | (port == 0))
-}
+impl Stream {
+    fn is_sound(&self) -> bool
+        ensures { result ≡ sound_stream self.now }
+    {
+        let bytes = command_bytes(self.queue);
+        let next = bytes[0];
+        let port = self.port;
+        let held = self.count;
+        let n = count(first_of(next, port));
+        !has_hole(bytes)
+            & ((held < n) | ((next == 0) & (port == 0) & (held == 0)))
+            & (!self.dummy | (next == 0))
+            & (((next == 0) & !self.dummy) | (port == 0))
+    }
 
-// Whether a record of these parts is sound, by a table that was laid out before; the stacks are not looked at. For the
-// crates above this one.
-pub fn is_sound_in(table: &Table, t: Transform, g: Geometry, s: Stream) -> bool
-    requires { table.now ≡ parameter_table }
-    ensures { result ≡ ((sound_transform t && sound_geometry g) && sound_stream s) }
-{
-    is_sound_transform(t) & is_sound_geometry(g) & is_sound_stream(table, s)
-}
-
-// Whether the record is sound.
-pub fn is_sound(e: Engine) -> bool
-    ensures { result ≡ sound e }
-{
-    let table = parameter_table();
-    let t = e.core.registers.transform;
-    let g = e.core.registers.geometry;
-    let s = e.stream;
-    is_sound_in(&table, t, g, s)
-}
-
-// A packed word has commands or its dummy to come. For the crates above this one: number 1 does not fall.
-pub fn is_packed_pending(table: &Table, s: Stream) -> bool
-    requires table_value { table.now ≡ parameter_table }
-    requires sound { sound_stream s ≡ true }
-    ensures { result ≡ packed_pending (pending_of s) }
-{
-    is_known_in(table, (s.queue % 256) as u8) | s.dummy
+    // A packed word has commands or its dummy to come. For the crates above this one: number 1 does not fall.
+    pub fn is_packed_pending(&self) -> bool
+        requires { sound_stream self.now ≡ true }
+        ensures { result ≡ packed_pending (pending_of self.now) }
+    {
+        is_known((self.queue % 256) as u8) | self.dummy
+    }
 }

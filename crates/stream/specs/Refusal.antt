@@ -1,5 +1,5 @@
 -- The numbers of refusals: document 01, "Numbers a call can refuse with".
-use Rattle.std.specs.Prelude.{ℕ}
+use Rattle.std.specs.Prelude.{ℕ, Option, Some, None}
 use Rattle.stream.specs.declared.Refusal.{Refusal}
 use Rattle.stream.specs.declared.Refusal.TheVariants.{NotSound, ListTooShort, Hole, OtherKindPending, NoPort, OtherPort}
 use Rattle.stream.specs.declared.Refusal.TheVariants.{NoInput, Incomplete, TooLong, OutputTooShort, NoRoom}
@@ -28,3 +28,8 @@ number_of TooLong = 9
 number_of OutputTooShort = 10
 -- "room out of range"
 number_of NoRoom = 11
+
+-- the number of a call's answer: "An accepted call's number is 0."
+abbrev pub call_number : Option Refusal → ℕ
+call_number None = 0
+call_number (Some r) = number_of r

@@ -8,7 +8,10 @@ use native.Mathlib.Omega.{arith}
 use lib.ListN.{length, get_or, take, drop}
 use lib.Seq.{get_or-drop}
 use borrow.Author.Tests.{ne_eqb}
+use Rattle.std.specs.Prelude.{Some, None}
 use Rattle.commands.specs.Commands.{known, count, command_bytes, hole}
+use Rattle.stream.specs.declared.Refusal.{Refusal}
+use Rattle.stream.specs.Refusal.{number_of}
 use Rattle.stream.specs.Pending.{Pending, queued, commands_of}
 use Rattle.stream.specs.Command.{takes_none, Command, command}
 use Rattle.stream.specs.Step.{Step, refused, at_once, pending_behind}
@@ -16,14 +19,16 @@ use Rattle.stream.proofs.CommandLaws.{never, count_takes_some, none-by-count}
 use Rattle.stream.proofs.QueueLaws.{commands-next, commands-none}
 use Rattle.turns.specs.declared.Begun.{Begun}
 use Rattle.turns.specs.declared.Turn.{Turn}
+use Rattle.turns.specs.declared.Outcome.{Outcome}
+use Rattle.turns.specs.declared.Outcome.TheVariants.{Ends}
 use Rattle.turns.specs.Inside.{due_of, behind_due, pending_due, Fit, AllTaken, no_item, given_by, to_come, Turned}
+use Rattle.turns.specs.Inside.{command_in, has_ended}
 
 abbrev pub begun : ℕ → ℕ → Bool → ℕ → Begun
 begun queue count dummy port = record { queue = queue; count = count; dummy = dummy; port = port }
 
-abbrev pub turn : ℕ → Begun → ℕ → ℕ → Bool → Turn
-turn next b command number ended =
-    record { next = next; begun = b; command = command; number = number; ended = ended }
+abbrev pub turn : ℕ → Begun → Outcome → Turn
+turn next b outcome = record { next = next; begun = b; outcome = outcome }
 
 -- ---- what is due and pending, by the front of the queue
 
@@ -109,89 +114,83 @@ module _ (queue : ℕ) (d : Bool) where
 
 -- ---- turns
 
-module _ {A : Type 0} {step : Pending → A → Step} {items : List A} {i : ℕ} {b : Begun} {old : List ℕ} {r : Turn} where
+module _ {A : Type 0} {step : Pending → A → Step} {items : List A} {i : ℕ} {b : Begun} {old : List ℕ} where
   -- items are taken, and there is more
-  pub turned_on : {new : List ℕ} (many : ℕ) (n : Begun) (c : ℕ) (completed : List Command)
-      → r ≡ turn (i + many) n c 0 false → length new ≡ length old → i + many ≤ length items
+  pub turned_on : {new : List ℕ} {next : ℕ} (many : ℕ) (n : Begun) (o : Outcome) (completed : List Command)
+      → has_ended o ≡ false → next ≡ i + many → length new ≡ length old → i + many ≤ length items
       → AllTaken step (pending_due b old) (take many (drop i items)) (pending_due n new) completed
-      → due_of b ++ completed ≡ given_by c new ++ due_of n → Fit n → (due_of b ≡ [] → 1 ≤ many)
-      → to_come (length items) (i + many) n < to_come (length items) i b → Turned step items i b old r new
-  turned_on {new} many n c completed is same within taken order fit some less =
-      subst (λ (r : Turn). Turned step items i b old r new) (sym is)
-      (record {
-        many = many;
-        completed = completed;
-        next = refl;
-        same = same;
-        within = within;
-        taken = taken;
-        order = order;
-        fit = fit;
-        none-due = λ t. never t;
-        none-given = λ t. never t;
-        all-taken = λ t. never t;
-        not_taken = λ t. never t;
-        some_left = λ t. never t;
-        as_before = λ t. never t;
-        some-taken = λ t. some;
-        less = λ t. less;
-      })
+      → due_of b ++ completed ≡ given_by (command_in o) new ++ due_of n → Fit n → (due_of b ≡ [] → 1 ≤ many)
+      → to_come (length items) next n < to_come (length items) i b → Turned step items i b old (turn next n o) new
+  turned_on many n o completed more next same within taken order fit some less = record {
+    many = many;
+    completed = completed;
+    next = next;
+    same = same;
+    within = within;
+    taken = taken;
+    order = order;
+    fit = fit;
+    none-due = λ t. never (sym more ∙ t);
+    none-given = λ t. never (sym more ∙ t);
+    all-taken = λ t. never (sym more ∙ t);
+    not_taken = λ t. never (sym more ∙ t);
+    some_left = λ t. never (sym more ∙ t);
+    as_before = λ t. never (sym more ∙ t);
+    some-taken = λ t. some;
+    less = λ t. less;
+  }
 
   -- all items that are left are taken
-  pub turned-all : {new : List ℕ} (many : ℕ) (n : Begun) → r ≡ turn (i + many) n 0 0 true → length new ≡ length old
+  pub turned-all : {new : List ℕ} {next : ℕ} (many : ℕ) (n : Begun) → next ≡ i + many → length new ≡ length old
       → i + many ≡ length items
       → AllTaken step (pending_due b old) (take many (drop i items)) (pending_due n new) []
-      → due_of b ≡ [] → due_of n ≡ [] → Fit n → Turned step items i b old r new
-  turned-all {new} many n is same all taken due due-n fit =
-      subst (λ (r : Turn). Turned step items i b old r new) (sym is)
-      (record {
-        many = many;
-        completed = [];
-        next = refl;
-        same = same;
-        within = omega (arith, all);
-        taken = taken;
-        order = rw (due, due-n, given-none new);
-        fit = fit;
-        none-due = λ t. due-n;
-        none-given = λ t. refl;
-        all-taken = λ t z. all;
-        not_taken = λ t z. absurd (z refl);
-        some_left = λ t z. absurd (z refl);
-        as_before = λ t z. absurd (z refl);
-        some-taken = λ t. never (sym t);
-        less = λ t. never (sym t);
-      })
+      → due_of b ≡ [] → due_of n ≡ [] → Fit n → Turned step items i b old (turn next n (Ends None)) new
+  turned-all {new} many n next same all taken due due-n fit = record {
+    many = many;
+    completed = [];
+    next = next;
+    same = same;
+    within = omega (arith, all);
+    taken = taken;
+    order = rw (due, due-n, given-none new);
+    fit = fit;
+    none-due = λ t. due-n;
+    none-given = λ t. refl;
+    all-taken = λ t z. all;
+    not_taken = λ t z. absurd (z refl);
+    some_left = λ t z. absurd (z refl);
+    as_before = λ t z. absurd (z refl);
+    some-taken = λ t. never (sym t);
+    less = λ t. never (sym t);
+  }
 
   module _ (f : Fit b) (due : due_of b ≡ []) where
     -- none is left
-    pub turned_ended : r ≡ turn i b 0 0 true → i ≤ length items → length items ≤ i → Turned step items i b old r old
-    turned_ended is within end =
-        turned-all 0 b (is ∙ ap (λ (k : ℕ). turn k b 0 0 true) (sym (add-zero i))) refl (omega arith) no_item due due f
+    pub turned_ended : i ≤ length items → length items ≤ i → Turned step items i b old (turn i b (Ends None)) old
+    turned_ended within end = turned-all 0 b (sym (add-zero i)) refl (omega arith) no_item due due f
 
     -- the next is refused
-    pub turned-refused : (n : ℕ) → r ≡ turn i b 0 n true → (n ≡ 0 → ⊥) → i < length items → (d : A)
-        → step (pending_due b old) (get_or items i d) ≡ refused n → Turned step items i b old r old
-    turned-refused n is number inside d told =
-        subst (λ (r : Turn). Turned step items i b old r old) (sym is)
-        (record {
-          many = 0;
-          completed = [];
-          next = sym (add-zero i);
-          same = refl;
-          within = omega arith;
-          taken = no_item;
-          order = rw (due, given-none old);
-          fit = f;
-          none-due = λ t. due;
-          none-given = λ t. refl;
-          all-taken = λ t z. absurd (number z);
-          not_taken = λ t z a l e. ap (step (pending_due b old)) (first a l e) ∙ told;
-          some_left = λ t z. omega arith;
-          as_before = λ t z. (refl, refl);
-          some-taken = λ t. never (sym t);
-          less = λ t. never (sym t);
-        })
+    pub turned-refused : (n : Refusal) → (number_of n ≡ 0 → ⊥) → i < length items → (d : A)
+        → step (pending_due b old) (get_or items i d) ≡ refused (number_of n)
+        → Turned step items i b old (turn i b (Ends (Some n))) old
+    turned-refused n number inside d told = record {
+      many = 0;
+      completed = [];
+      next = sym (add-zero i);
+      same = refl;
+      within = omega arith;
+      taken = no_item;
+      order = rw (due, given-none old);
+      fit = f;
+      none-due = λ t. due;
+      none-given = λ t. refl;
+      all-taken = λ t z. absurd (number z);
+      not_taken = λ t z a l e. ap (step (pending_due b old)) (first a l e) ∙ told;
+      some_left = λ t z. omega arith;
+      as_before = λ t z. (refl, refl);
+      some-taken = λ t. never (sym t);
+      less = λ t. never (sym t);
+    }
       where
         first : (a : A) (l : List A) → drop (i + 0) items ≡ a ∷ l → a ≡ get_or items i d
         first a l e =

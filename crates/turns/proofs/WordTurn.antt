@@ -7,8 +7,10 @@ use native.Mathlib.Nat.{add-zero}
 use native.Mathlib.Omega.{arith}
 use lib.ListN.{length, get_or, take, drop}
 use borrow.Author.Tests.{ne_eqb, lt-ltb, le-ltb}
+use Rattle.std.specs.Prelude.{Some, None}
 use Rattle.commands.specs.Commands.{known, count, command_bytes, hole}
 use Rattle.commands.proofs.Table.{known-range, count_small}
+use Rattle.stream.specs.declared.Refusal.TheVariants.{Hole, OtherKindPending}
 use Rattle.stream.specs.Pending.{dummy_due, queued, commands_of}
 use Rattle.stream.specs.Command.{command}
 use Rattle.stream.specs.Step.{accepted, at_once, pending_behind, command_word, parameter_word, word_step}
@@ -17,6 +19,7 @@ use Rattle.stream.proofs.QueueLaws.{hole-next}
 use Rattle.stream.proofs.StepLaws.{length-snoc}
 use Rattle.turns.specs.declared.Begun.{Begun}
 use Rattle.turns.specs.declared.Turn.{Turn}
+use Rattle.turns.specs.declared.Outcome.TheVariants.{Runs, GoesOn, Ends}
 use Rattle.turns.specs.Inside.{due_of, pending_due, Fit, Held, no_item, one-item, given_by, Turned}
 use Rattle.turns.proofs.HeldLaws.{same_length, next_one}
 use Rattle.turns.proofs.ManyLaws.{some-taken, all-taken}
@@ -60,14 +63,15 @@ module _ (b : Begun) (ws old : List ℕ) (i : ℕ) (long : length old ≡ 32) (f
   given = given-some c (λ z. omega (arith, z, known-range c k))
 
   -- it lacks none: then it takes none, since fewer are held than a command takes that takes any
-  pub word-at_once : {r : Turn} → b.count ≡ count c → i ≤ length ws
-      → r ≡ turn i (begun (b.queue / 256) 0 true 0) c 0 false → Turned word_step ws i b old r old
-  word-at_once {r} e w is =
-      turned_on 0 (begun (b.queue / 256) 0 true 0) c [] (rw (add-zero i) is) refl (omega (arith, w))
+  pub word-at_once : {d : Bool} → d ≡ true → b.count ≡ count c → i ≤ length ws
+      → Turned word_step ws i b old (turn i (begun (b.queue / 256) 0 d 0) (Runs c)) old
+  word-at_once {d} last e w =
+      rw last
+      (turned_on 0 (begun (b.queue / 256) 0 true 0) (Runs c) [] refl (sym (add-zero i)) refl (omega (arith, w))
       (rw (pending-none b fits k old z, pending-behind (b.queue / 256) true old) no_item)
       (append-nil (due_of b) ∙ due-none b fits k z ∙ rw (given old, z, due-behind (b.queue / 256) true))
       (fit_next true) (λ n. absurd (omega (arith, ap length (sym n ∙ due-none b fits k z))))
-      (omega (arith, known-range c k))
+      (omega (arith, known-range c k)))
     where
       by : (n : ℕ) → count c ≡ n → count c ≡ 0
       by zero z = z
@@ -77,28 +81,28 @@ module _ (b : Begun) (ws old : List ℕ) (i : ℕ) (long : length old ≡ 32) (f
       z = by (count c) refl
 
   -- it is complete with words that were lacking
-  pub word-complete : {r : Turn} {new : List ℕ} (lacks : ℕ) → 1 ≤ lacks → b.count + lacks ≡ count c
+  pub word-complete : {d : Bool} {new : List ℕ} (lacks : ℕ) → d ≡ false → 1 ≤ lacks → b.count + lacks ≡ count c
       → i + lacks ≤ length ws → Held (λ w. w) ws i old b.count new lacks
-      → r ≡ turn (i + lacks) (begun (b.queue / 256) 0 false 0) c 0 false → Turned word_step ws i b old r new
-  word-complete {r} {new} lacks o e w h is =
+      → Turned word_step ws i b old (turn (i + lacks) (begun (b.queue / 256) 0 d 0) (Runs c)) new
+  word-complete {d} {new} lacks more-due o e w h =
       let some : 1 ≤ count c = omega (arith, e) in
-      turned_on lacks (begun (b.queue / 256) 0 false 0) c (command c (take (count c) new) ∷ at_once q)
-      is (same_length h) w
+      rw more-due
+      (turned_on lacks (begun (b.queue / 256) 0 false 0) (Runs c) (command c (take (count c) new) ∷ at_once q)
+      refl refl (same_length h) w
       (rw (pending-some b fits k old some, pending-behind (b.queue / 256) false new)
       (all-taken word_step (λ w. w) (queued (c ∷ q)) (count c) (more c q) h long (count_small c) (pending_behind false q)
       (λ h. command c h ∷ at_once q) (last c q) o e))
       (rw (due-some b fits k some, given new, due-behind (b.queue / 256) false))
-      (fit_next false) (λ n. o) (omega (arith, w, fits, o))
+      (fit_next false) (λ n. o) (omega (arith, w, fits, o)))
 
   -- words are lacking
-  pub word-short : {r : Turn} {new : List ℕ} (left : ℕ) → b.count + left < count c → i + left ≡ length ws
+  pub word-short : {new : List ℕ} (left : ℕ) → b.count + left < count c → i + left ≡ length ws
       → Held (λ w. w) ws i old b.count new left
-      → r ≡ turn (i + left) (begun b.queue (b.count + left) false b.port) 0 0 true
-      → Turned word_step ws i b old r new
-  word-short {r} {new} left e w h is =
+      → Turned word_step ws i b old (turn (i + left) (begun b.queue (b.count + left) false b.port) (Ends None)) new
+  word-short {new} left e w h =
       let some : 1 ≤ count c = omega (arith, e) in
       let n : Begun = begun b.queue (b.count + left) false b.port in
-      turned-all left n is (same_length h) w
+      turned-all left n refl (same_length h) w
       (rw (pending-some b fits k old some, pending-some n fits k new some)
       (some-taken word_step (λ w. w) (queued (c ∷ q)) (count c) (more c q) h long (count_small c) e))
       (due-some b fits k some) (due-some n fits k some)
@@ -116,10 +120,10 @@ module _ (b : Begun) (ws old : List ℕ) (i : ℕ) (long : length old ≡ 32) (f
 module _ (b : Begun) (ws old : List ℕ) (i : ℕ) (f : Fit b) (k : known (b.queue % 256) ≡ false) (inside : i < length ws)
   where
     -- a port command is pending
-    pub word-port : {r : Turn} → (b.port ≡ 0 → ⊥) → r ≡ turn i b 0 4 true → Turned word_step ws i b old r old
+    pub word-port : (b.port ≡ 0 → ⊥) → Turned word_step ws i b old (turn i b (Ends (Some OtherKindPending))) old
     unfolding word_step
-    word-port p is =
-        turned-refused f (due-idle b k f) 4 is (λ z. omega (arith, z)) inside 0
+    word-port p =
+        turned-refused f (due-idle b k f) OtherKindPending (λ z. omega (arith, z)) inside 0
         (rw (pending-idle b k f old, ne_eqb b.port 0 p))
 
     one : take 1 (drop i ws) ≡ get_or ws i 0 ∷ []
@@ -131,11 +135,11 @@ module _ (b : Begun) (ws old : List ℕ) (i : ℕ) (f : Fit b) (k : known (b.que
       due = pending-idle b k f old ∙ rw (z, f.idle-held k z)
 
       -- the dummy is taken
-      pub word-dummy : {r : Turn} → b.dummy ≡ true
-          → r ≡ turn (i + 1) (begun b.queue b.count false b.port) 0 0 false → Turned word_step ws i b old r old
+      pub word-dummy : b.dummy ≡ true
+          → Turned word_step ws i b old (turn (i + 1) (begun b.queue b.count false b.port) GoesOn) old
       unfolding word_step
-      word-dummy d is =
-          turned_on 1 n 0 [] is refl (omega arith)
+      word-dummy d =
+          turned_on 1 n GoesOn [] refl refl refl (omega arith)
           (rw (one, due, d, pending-idle n k fit_n old, z, f.idle-held k z) (one-item {cs = []} refl no_item))
           (rw (due-idle b k f, given-none old, due-idle n k fit_n)) fit_n (λ n. omega arith) (omega arith)
         where
@@ -157,22 +161,21 @@ module _ (b : Begun) (ws old : List ℕ) (i : ℕ) (f : Fit b) (k : known (b.que
         abbrev x : ℕ
         x = get_or ws i 0
 
-        pub word-hole : {r : Turn} → hole (command_bytes x) ≡ true → r ≡ turn i b 0 3 true
-            → Turned word_step ws i b old r old
+        pub word-hole : hole (command_bytes x) ≡ true → Turned word_step ws i b old (turn i b (Ends (Some Hole))) old
         unfolding word_step command_word
-        word-hole h is =
-            turned-refused f (due-idle b k f) 3 is (λ z. omega (arith, z)) inside 0 (rw (due, d, h))
+        word-hole h =
+            turned-refused f (due-idle b k f) Hole (λ z. omega (arith, z)) inside 0 (rw (due, d, h))
 
         taken : hole (command_bytes x) ≡ false
             → word_step (dummy_due b.dummy) x ≡ accepted (pending_behind false (commands_of x)) (at_once (commands_of x))
         unfolding word_step command_word
         taken h = rw (d, h)
 
-        pub word-word : {r : Turn} → x < 2 ^ 32 → hole (command_bytes x) ≡ false
-            → r ≡ turn (i + 1) (begun x 0 false 0) 0 0 false → Turned word_step ws i b old r old
-        word-word fits h is =
+        pub word-word : x < 2 ^ 32 → hole (command_bytes x) ≡ false
+            → Turned word_step ws i b old (turn (i + 1) (begun x 0 false 0) GoesOn) old
+        word-word fits h =
             let q : List ℕ = commands_of x in
-            turned_on 1 (begun x 0 false 0) 0 (at_once q ++ []) is refl (omega arith)
+            turned_on 1 (begun x 0 false 0) GoesOn (at_once q ++ []) refl refl refl (omega arith)
             (rw (one, due, pending-behind x false old) (one-item (taken h) no_item))
             (rw (due-idle b k f, given-none old, due-behind x false, append-nil (at_once q)))
             (fit-behind x false h) (λ n. omega arith) (omega (arith, fits))

@@ -8,8 +8,12 @@ use lib.Dec.{eqb}
 use lib.ListN.{length, get_or, take, drop}
 use lib.Seq.{length-take-le}
 use borrow.Author.Tests.{eq-eqb, ne_eqb, eqb-true, eqb-false, lt-ltb, le-ltb}
+use Rattle.std.specs.Prelude.{Some, None}
 use Rattle.commands.specs.Commands.{known, count, command_at}
 use Rattle.commands.proofs.Table.{count_small}
+use Rattle.stream.specs.declared.Refusal.{Refusal}
+use Rattle.stream.specs.declared.Refusal.TheVariants.{OtherKindPending, NoPort, OtherPort}
+use Rattle.stream.specs.Refusal.{number_of}
 use Rattle.stream.specs.Pending.{Pending, idle, port_pending, packed_pending}
 use Rattle.stream.specs.Command.{takes_none, command, write}
 use Rattle.stream.specs.Read.{writes}
@@ -21,6 +25,8 @@ use Rattle.stream.proofs.UnpackLaws.{length-writes}
 use Rattle.stream.proofs.WriteLaws.{writes_at}
 use Rattle.turns.specs.declared.Begun.{Begun}
 use Rattle.turns.specs.declared.Turn.{Turn}
+use Rattle.turns.specs.declared.Outcome.{Outcome}
+use Rattle.turns.specs.declared.Outcome.TheVariants.{Runs, GoesOn, Ends}
 use Rattle.turns.specs.Inside.{due_of, pending_due, is_packed, Fit, Writable, pair_at}
 use Rattle.turns.specs.Inside.{Held, AllTaken, no_item, one-item, Turned}
 use Rattle.turns.proofs.HeldLaws.{same_length, next_one}
@@ -56,54 +62,41 @@ module _ (b : Begun) (free : is_packed b ≡ false) where
   unfolding is_packed
   no_dummy = (unpacked (known (b.queue % 256)) b.dummy free).1
 
--- what constant `packed` stands for is the same after a turn
-pub same-packed : {r : Turn} {next c number : ℕ} {n : Begun} {ended : Bool} → r ≡ turn next n c number ended
-    → (r.begun.queue ≡ n.queue) × (r.begun.dummy ≡ n.dummy)
-same-packed is = (ap (λ (r : Turn). r.begun.queue) is, ap (λ (r : Turn). r.begun.dummy) is)
-
 -- ---- refusals
 
-pub neither : (x y : Bool) → (not x && not y) ≡ true → (x || y) ≡ false
-neither true y e = never e
-neither false true e = never e
-neither false false e = refl
-
-pub either : (x y : Bool) → (not x && not y) ≡ false → (x || y) ≡ true
-either true y e = refl
-either false true e = refl
-either false false e = never (sym e)
-
 module _ (b : Begun) (log old : List ℕ) (i : ℕ) (f : Fit b) (due : due_of b ≡ []) where
-  pub write_ended : {r : Turn} → i ≤ length log / 2 → length log / 2 ≤ i → r ≡ turn i b 0 0 true
-      → Turned port_step (writes log) i b old r old
-  write_ended w e is = turned_ended f due is (omega (arith, w, length-writes log)) (omega (arith, e, length-writes log))
+  pub write_ended : i ≤ length log / 2 → length log / 2 ≤ i
+      → Turned port_step (writes log) i b old (turn i b (Ends None)) old
+  write_ended w e = turned_ended f due (omega (arith, w, length-writes log)) (omega (arith, e, length-writes log))
 
   module _ (w : i < length log / 2) (c : ℕ) (at : c ≡ command_at (get_or log (2 * i) 0)) where
-    write-refused : {r : Turn} (n : ℕ) → r ≡ turn i b 0 n true → (n ≡ 0 → ⊥)
-        → port_step (pending_due b old) (pair_at log i) ≡ refused n → Turned port_step (writes log) i b old r old
-    write-refused n is d told =
-        turned-refused f due n is d (omega (arith, w, length-writes log)) (write 0 0) (rw (write-is log i w) told)
+    write-refused : (n : Refusal) → (number_of n ≡ 0 → ⊥)
+        → port_step (pending_due b old) (pair_at log i) ≡ refused (number_of n)
+        → Turned port_step (writes log) i b old (turn i b (Ends (Some n))) old
+    write-refused n d told =
+        turned-refused f due n d (omega (arith, w, length-writes log)) (write 0 0) (rw (write-is log i w) told)
 
     -- the address is no port
-    pub write_no_port : {r : Turn} → c ≡ 0 → r ≡ turn i b 0 5 true → Turned port_step (writes log) i b old r old
+    pub write_no_port : c ≡ 0 → Turned port_step (writes log) i b old (turn i b (Ends (Some NoPort))) old
     unfolding port_step
-    write_no_port z is = write-refused 5 is (λ z. omega (arith, z)) (rw (← at, z))
+    write_no_port z = write-refused NoPort (λ z. omega (arith, z)) (rw (← at, z))
 
     module _ (some : c ≡ 0 → ⊥) where
       -- a packed word is pending
-      pub write-packed : {r : Turn} → b.queue < 2 ^ 32 → is_packed b ≡ true → r ≡ turn i b 0 4 true
-          → Turned port_step (writes log) i b old r old
+      pub write-packed : b.queue < 2 ^ 32 → is_packed b ≡ true
+          → Turned port_step (writes log) i b old (turn i b (Ends (Some OtherKindPending))) old
       unfolding port_step
-      write-packed fits p is =
-          write-refused 4 is (λ z. omega (arith, z)) (rw (← at, ne_eqb c 0 some, is-packed b fits f due p old))
+      write-packed fits p =
+          write-refused OtherKindPending (λ z. omega (arith, z))
+          (rw (← at, ne_eqb c 0 some, is-packed b fits f due p old))
 
       -- another port's command is pending
-      pub write_other : {r : Turn} → is_packed b ≡ false → (eqb b.port 0 || eqb b.port c) ≡ false
-          → r ≡ turn i b 0 6 true → Turned port_step (writes log) i b old r old
+      pub write_other : is_packed b ≡ false → (b.port ≡ 0 → ⊥) → (b.port ≡ c → ⊥)
+          → Turned port_step (writes log) i b old (turn i b (Ends (Some OtherPort))) old
       unfolding port_step
-      write_other free o is =
-          write-refused 6 is (λ z. omega (arith, z))
-          (rw (pending-idle b (not-queued b free) f old, ← at, ne_eqb c 0 some, no_dummy b free, o))
+      write_other free begun-one other =
+          write-refused OtherPort (λ z. omega (arith, z))
+          (rw (pending-idle b (not-queued b free) f old, ← at, ne_eqb c 0 some, no_dummy b free, ne_eqb b.port 0 begun-one, ne_eqb b.port c other))
 
 -- ---- writes are taken
 
@@ -198,44 +191,41 @@ module _ {b : Begun} {log old : List ℕ} {i c : ℕ} (t : Writable b c log i ol
   idle_then : (held : List ℕ) → pending_due behind held ≡ idle
   idle_then held = pending-behind b.queue b.dummy held ∙ rw (commands-none b.queue k t.fit.no_hole, d)
 
-  complete : {r : Turn} {new : List ℕ} (many : ℕ) → 1 ≤ many → i + many ≤ length log / 2 → length new ≡ length old
+  complete : {new : List ℕ} (many : ℕ) → 1 ≤ many → i + many ≤ length log / 2 → length new ≡ length old
       → AllTaken port_step (pending_due b old) (take many (drop i (writes log))) idle
       (command c (take (count c) new) ∷ [])
-      → r ≡ turn (i + many) behind c 0 false → Turned port_step (writes log) i b old r new
-  complete {r} {new} many some inside same taken is =
-      turned_on many behind c (command c (take (count c) new) ∷ []) is same (omega (arith, inside, length-writes log))
+      → Turned port_step (writes log) i b old (turn (i + many) behind (Runs c)) new
+  complete {new} many some inside same taken =
+      turned_on many behind (Runs c) (command c (take (count c) new) ∷ []) refl refl same
+      (omega (arith, inside, length-writes log))
       (rw (idle_then new) taken)
       (rw (due-idle b k t.fit, given-some c t.some new, due-idle behind k fit_then)) fit_then (λ n. some)
       (omega (arith, some, inside, length-writes log))
 
   -- a port without parameters
-  pub write-none : {r : Turn} → count c ≡ 0 → r ≡ turn (i + 1) behind c 0 false
-      → Turned port_step (writes log) i b old r old
-  write-none z is =
+  pub write-none : count c ≡ 0 → Turned port_step (writes log) i b old (turn (i + 1) behind (Runs c)) old
+  write-none z =
       let w : i < length (writes log) = omega (arith, t.inside, length-writes log) in
       complete 1 (omega arith) (omega (arith, t.inside)) refl
       (rw (next_one (writes log) i (write 0 0) w, write-is log i t.inside, here, none-held z, z)
       (one-item (at_once (get_or log (2 * i + 1) 0) z) no_item))
-      is
 
-  module _ (takes : 1 ≤ count c) {r : Turn} {new : List ℕ} (many : ℕ) (some : 1 ≤ many)
+  module _ (takes : 1 ≤ count c) {new : List ℕ} (many : ℕ) (some : 1 ≤ many)
       (inside : i + many ≤ length log / 2) (h : Held (write a) (writes log) i old b.count new many) where
     -- the last parameters
-    pub write-last : b.count + many ≡ count c → r ≡ turn (i + many) behind c 0 false
-        → Turned port_step (writes log) i b old r new
-    write-last e is =
+    pub write-last : b.count + many ≡ count c
+        → Turned port_step (writes log) i b old (turn (i + many) behind (Runs c)) new
+    write-last e =
         complete many some inside (same_length h)
         (rw here
         (all-taken port_step (write a) (on c b.port) (count c) (more takes) h t.long
         (count_small c) idle (λ h. command c h ∷ []) (last takes) some e))
-        is
 
     -- others are lacking
     pub write-more : b.count + many < count c
-        → r ≡ turn (i + many) (begun b.queue (b.count + many) b.dummy c) 0 0 false
-        → Turned port_step (writes log) i b old r new
-    write-more e is =
-        turned_on many n 0 [] is (same_length h) (omega (arith, inside, length-writes log))
+        → Turned port_step (writes log) i b old (turn (i + many) (begun b.queue (b.count + many) b.dummy c) GoesOn) new
+    write-more e =
+        turned_on many n GoesOn [] refl refl (same_length h) (omega (arith, inside, length-writes log))
         (rw (here, there)
         (some-taken port_step (write a) (on c b.port) (count c) (more takes) h t.long
         (count_small c) e))

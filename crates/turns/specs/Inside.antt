@@ -2,12 +2,15 @@
 use Rattle.std.specs.Prelude.{Bool, true, false, cond, ◌||◌, List, [], ◌∷◌, ◌++◌, map, ◌≡◌, ℕ, ◌+◌, ◌-◌, ◌*◌, ◌/◌, ◌%◌, ◌^◌, ◌≤◌, ◌<◌, eqb, length, get_or, take, drop}
 use Rattle.std.proofs.lemmas.List.Edits.{sets}
 use Rattle.commands.specs.Commands.{known, count, command_at, command_bytes, hole}
+use Rattle.stream.specs.Refusal.{call_number}
 use Rattle.stream.specs.Pending.{Pending, queued, commands_of}
 use Rattle.stream.specs.Command.{takes_none, Command, command, Write, write}
 use Rattle.stream.specs.Read.{writes}
 use Rattle.stream.specs.Step.{Step, refused, accepted, at_once, pending_behind, word_step, port_step}
 use Rattle.turns.specs.declared.Begun.{Begun}
 use Rattle.turns.specs.declared.Turn.{Turn}
+use Rattle.turns.specs.declared.Outcome.{Outcome}
+use Rattle.turns.specs.declared.Outcome.TheVariants.{Runs, GoesOn, Ends}
 
 -- ---- what is pending
 
@@ -48,6 +51,24 @@ pub record Writable (b : Begun) (c : ℕ) (log : List ℕ) (i : ℕ) (held : Lis
 
 -- ---- a turn
 
+-- the command that an outcome completes, 0 where it completes none
+abbrev pub command_in : Outcome → ℕ
+command_in (Runs c) = c
+command_in GoesOn = 0
+command_in (Ends refusal) = 0
+
+-- whether it is the end
+abbrev pub has_ended : Outcome → Bool
+has_ended (Runs c) = false
+has_ended GoesOn = false
+has_ended (Ends refusal) = true
+
+-- the number with which the next item is refused, 0 where none is
+abbrev pub number_in : Outcome → ℕ
+number_in (Runs c) = 0
+number_in GoesOn = 0
+number_in (Ends refusal) = call_number refusal
+
 -- the items from the i-th on, so many, are those of some values, which are held from place `to` on
 pub record Held {A : Type 0} (item : ℕ → A) (items : List A) (i : ℕ) (old : List ℕ) (to : ℕ) (new : List ℕ) (many : ℕ)
     : Type 0 where
@@ -79,17 +100,17 @@ pub record Turned {A : Type 0} (step : Pending → A → Step) (items : List A) 
   pub same : length new ≡ length old
   pub within : i + many ≤ length items
   pub taken : AllTaken step (pending_due b old) (take many (drop i items)) (pending_due r.begun new) completed
-  pub order : due_of b ++ completed ≡ given_by r.command new ++ due_of r.begun
+  pub order : due_of b ++ completed ≡ given_by (command_in r.outcome) new ++ due_of r.begun
   pub fit : Fit r.begun
-  pub none-due : r.ended ≡ true → due_of r.begun ≡ []
-  pub none-given : r.ended ≡ true → r.command ≡ 0
-  pub all-taken : r.ended ≡ true → r.number ≡ 0 → i + many ≡ length items
-  pub not_taken : r.ended ≡ true → (r.number ≡ 0 → ⊥) → (a : A) (l : List A) → drop (i + many) items ≡ a ∷ l
-      → step (pending_due r.begun new) a ≡ refused r.number
-  pub some_left : r.ended ≡ true → (r.number ≡ 0 → ⊥) → i + many < length items
-  pub as_before : r.ended ≡ true → (r.number ≡ 0 → ⊥) → (r.begun ≡ b) × (new ≡ old)
-  pub some-taken : r.ended ≡ false → due_of b ≡ [] → 1 ≤ many
-  pub less : r.ended ≡ false → to_come (length items) r.next r.begun < to_come (length items) i b
+  pub none-due : has_ended r.outcome ≡ true → due_of r.begun ≡ []
+  pub none-given : has_ended r.outcome ≡ true → command_in r.outcome ≡ 0
+  pub all-taken : has_ended r.outcome ≡ true → number_in r.outcome ≡ 0 → i + many ≡ length items
+  pub not_taken : has_ended r.outcome ≡ true → (number_in r.outcome ≡ 0 → ⊥) → (a : A) (l : List A)
+      → drop (i + many) items ≡ a ∷ l → step (pending_due r.begun new) a ≡ refused (number_in r.outcome)
+  pub some_left : has_ended r.outcome ≡ true → (number_in r.outcome ≡ 0 → ⊥) → i + many < length items
+  pub as_before : has_ended r.outcome ≡ true → (number_in r.outcome ≡ 0 → ⊥) → (r.begun ≡ b) × (new ≡ old)
+  pub some-taken : has_ended r.outcome ≡ false → due_of b ≡ [] → 1 ≤ many
+  pub less : has_ended r.outcome ≡ false → to_come (length items) r.next r.begun < to_come (length items) i b
 
 -- ---- packed words, or port writes
 

@@ -1,37 +1,38 @@
-use mathlib.Core.List.{List}
-use mathlib.Core.Path.{refl, sym, ap, ◌∙◌, ◌≡◌}
-use Prim.Native.Nat.{ℕ, ◌<◌, min}
+use mathlib.Core.List.{List, [], ◌∷◌, ◌++◌}
+use mathlib.Core.Path.{◌≡◌, sym, ap, ◌∙◌}
+use Prim.Native.Nat.{ℕ, ◌<◌, ◌/◌, min}
 use native.Mathlib.Omega.{arith}
-use lib.ListN.{set, length-set, length, take}
-use Rattle.words.proofs.Over.{over_none, over-next, take_min}
-use Rattle.words.proofs.Words.{length-words_of, word-at}
+use lib.ListN.{length, get_or, take, drop}
+use Rattle.std.specs.Int.{w32, from_le_bytes}
+use Rattle.std.proofs.lemmas.List.{length-take, take_all, take_more, take_more_set, take_min}
 use Rattle.words.specs.Words.{words_of, over}
+use Rattle.words.proofs.Words.{length-words_of, chunk_word}
 use Rattle.words.proofs.read_words.Goals as goal
-
-pub loop-i-init : goal.loop-i-init
-loop-i-init c = (omega arith, c.least-count.ensures, refl, sym (over_none _))
 
 pub loop-i-preserved : goal.loop-i-preserved
 loop-i-preserved c =
     let input = c.args.input.now in
-    let old = c.args.buffer.now in
-    let i = c.loop-i.i in
-    let n = length-words_of input in
-    let h : i < length (words_of input) = omega (arith, c.loop-i.invariant.1) in
-    let room : i < length old = omega (arith, c.loop-i.invariant.1) in (
-      omega arith,
-      c.loop-i.invariant.1,
-      simp length-set c.loop-i.invariant.2,
-      (λ t. set (c.loop-i.invariant.3 t) i ((c.word_of.ensures ∙ word-at input i (omega (arith, c.loop-i.invariant.1))) t))
-          ∙ over-next (words_of input) old i 0 h room,
-    )
+    let at = c.loop-i in
+    let long = length-words_of input in
+    let inside : at.i < c.min-count.result = omega (arith, length-take {A = ℕ}) in
+    let read =
+    c.from_le_bytes.ensures
+    ∙ ap (λ (l : List (List ℕ)). from_le_bytes w32 (get_or l at.i [])) c.as_chunks.ensures.front
+    ∙ chunk_word (length input / 4) input at.i (omega arith) (omega arith) in
+    take_more_set at.word-items at.i c.from_le_bytes.result (omega arith)
+    ∙ (λ t. at.invariant t ++ (read t ∷ []))
+    ∙ sym (take_more (words_of input) at.i 0 (omega arith))
 
 pub returns : goal.returns
+unfolding over
 returns c =
-    let at = c.loop-i in
     let words = words_of c.args.input.now in
     let old = c.args.buffer.now in
-    let n = length-words_of c.args.input.now in
-    let all : at.i ≡ min (length old) (length words) = omega (arith, at.invariant.0, at.invariant.1, c.loop-i-test.false) in
-    at.invariant.3 ∙ ap (λ (k : ℕ). over (take k words) old) all
-    ∙ ap (λ (l : List ℕ). over l old) (take_min (length old) words)
+    let at = c.loop-i in
+    let long = length-words_of c.args.input.now in
+    let count : c.min-count.result ≡ length (take (length old) words) = simp length-take (omega arith) in
+    let all : at.i ≡ min (length old) (length words) = omega (arith, length-take {A = ℕ}) in
+    let new =
+    sym (take_all at.i at.word-items (omega arith)) ∙ at.invariant
+    ∙ ap (λ (k : ℕ). take k words) all ∙ take_min (length old) words in
+    λ t. new t ++ drop (count t) old

@@ -1,12 +1,7 @@
 use mathlib.Core.Path.{◌≡◌}
-use Prim.Native.Nat.{◌≤◌, ◌-◌, ◌/◌, min}
-use lib.ListN.{length, take}
+use lib.ListN.{take}
 use Rattle.words.specs.Words.{bytes_of, over}
 use Rattle.words.proofs.write_words.Given as goal
 
 abbrev pub invariant-loop-i : goal.invariant-loop-i
-invariant-loop-i l = (l.i ≤ l.count) × (l.count ≡ min (length l.initial.buffer / 4) (length l.input)) × (length l.buffer ≡ length l.initial.buffer)
-    × (l.buffer ≡ over (bytes_of (take l.i l.input)) l.initial.buffer)
-
-abbrev pub decreases-loop-i : goal.decreases-loop-i
-decreases-loop-i l = l.count - l.i
+invariant-loop-i l = l.buffer ≡ over (bytes_of (take l.i l.input)) l.initial.buffer

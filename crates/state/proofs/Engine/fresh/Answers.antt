@@ -3,9 +3,4 @@ use Rattle.state.proofs.Engine.fresh.Goals as goal
 
 pub returns : goal.returns
 unfolding fresh
-returns c =
-    simp (
-      c.fresh_stream-stream.ensures,
-      c.fresh_geometry-geometry.ensures,
-      c.fresh_transform-transform.ensures,
-    )
+returns c = simp (c.fresh_transform.ensures, c.fresh_geometry.ensures, c.fresh_stream.ensures)

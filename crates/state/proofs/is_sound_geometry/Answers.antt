@@ -1,6 +1,0 @@
-use Rattle.state.specs.Sound.{sound_geometry}
-use Rattle.state.proofs.is_sound_geometry.Goals as goal
-
-pub returns : goal.returns
-unfolding sound_geometry
-returns c = simp (c.rooms_allowed.ensures, c.is_sound_waiting.ensures)

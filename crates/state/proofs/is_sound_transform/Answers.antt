@@ -1,7 +1,0 @@
-use mathlib.Core.Path.{refl}
-use Rattle.state.specs.Sound.{sound_transform}
-use Rattle.state.proofs.is_sound_transform.Goals as goal
-
-pub returns : goal.returns
-unfolding sound_transform
-returns c = refl

@@ -1,9 +1,0 @@
-use Prim.Native.Nat.{◌-◌, ◌≤◌}
-use Rattle.turns.specs.Inside.{Held}
-use Rattle.turns.proofs.hold_words.Given as goal
-
-abbrev pub invariant-loop-j : goal.invariant-loop-j
-invariant-loop-j l = Held (λ w. w) l.words l.i l.initial.held l.count l.held l.j × (l.j ≤ l.many)
-
-abbrev pub decreases-loop-j : goal.decreases-loop-j
-decreases-loop-j l = l.many - l.j
