@@ -6,14 +6,13 @@ use Prim.Native.Nat.{ℕ, ◌≤◌}
 use native.Mathlib.Omega.{arith}
 use lib.ListN.{length, take}
 use lib.Seq.{length-take-le}
-use borrow.Author.Tests.{eq-eqb, ne_eqb}
+use borrow.Author.Tests.{eq-eqb}
 use Rattle.stream.specs.declared.OutputAnswer.{OutputAnswer}
 use Rattle.stream.specs.Read.{writes}
 use Rattle.stream.specs.Output.{Output, on_bytes, Stores}
 use Rattle.stream.proofs.OutputLaws.{stored-words, stored-length}
 use Rattle.stream.proofs.UnpackLaws.{length-writes}
 use Rattle.conversions.specs.Convert.{convert, longest_output}
-use Rattle.listing.specs.Text.{refused_line}
 use Rattle.listing.proofs.LineLaws.{length-ports_text, length-words_text}
 use Rattle.reports.specs.Inside.{output_text, longest_text, report_of}
 
@@ -23,15 +22,9 @@ pub text-fits : (log : Bool) (words : List ℕ) → length words ≤ longest_out
 text-fits true words h = omega (arith, length-words_text words)
 text-fits false words h = omega (arith, length-ports_text (writes words), length-writes words)
 
--- and so does the line of a refusal
-pub line_fits : (log : Bool) → 30 ≤ longest_text log
-line_fits true = omega arith
-line_fits false = omega arith
-
--- What a call on an input left in its output buffer, `stored`, with the answer r: the report of a refusal, and that of
--- the words, which are a part of the buffer
+-- What a call on an input left in its output buffer, `stored`, with the answer r: the report of the words, which
+-- are a part of the buffer
 pub record Answered (log : Bool) (input : List ℕ) (r : OutputAnswer) (stored : List ℕ) : Type 0 where
-  pub refused : (r.number ≡ 0 → ⊥) → refused_line r.number r.place ≡ report_of log input
   pub accepted : r.number ≡ 0 → output_text log (take r.length stored) ≡ report_of log input
   pub within : r.length ≤ length stored
   pub lent : length (take r.length stored) ≡ r.length
@@ -43,10 +36,8 @@ answered log input {r} {old} {new} long s k =
     let o : Output = on_bytes (convert log (longest_output log)) input in
     let t : Stores o r old new = rw long at s in
     let n : r.number ≡ o.number = ap (λ (x : OutputAnswer). x.number) t.answer in
-    let p : r.place ≡ o.place = ap (λ (x : OutputAnswer). x.place) t.answer in
     let m : r.length ≤ length new = stored-length t in
     record {
-      refused = λ d. rw (ne_eqb o.number 0 (λ e. d (n ∙ e)), n, p);
       accepted = λ z. rw (eq-eqb o.number 0 (sym n ∙ z), stored-words t);
       within = m;
       lent = length-take-le r.length new m;
