@@ -13,9 +13,8 @@ use Rattle.stream.specs.Feed.{Fed, fed, one_more_taken, feed, list_by}
 use Rattle.stream.proofs.FeedLaws.{list-some}
 use Rattle.state.specs.declared.Core.{Core}
 use Rattle.state.specs.declared.Engine.{Engine}
-use Rattle.state.specs.declared.Answer.{Answer}
 use Rattle.polygons.specs.Buffers.{Buffered}
-use Rattle.execute.specs.Call.{engine_rules, machine_of, reply_of, GivenBack}
+use Rattle.execute.specs.Call.{engine_rules, machine_of}
 
 module _ {State A : Type 0} (call : Machine State → A → Reply State) (m : Machine State) (a : A) where
   one : feed call m (a ∷ []) ≡ fed (cond (eqb (call m a).number 0) 1 0) (call m a).number (call m a).left
@@ -51,26 +50,25 @@ module _ {A : Type 0} (step : Pending → A → Step) (m : Machine (Buffered Cor
 
 -- what the feed of one item promises is what the call does
 module _ {A : Type 0} (step : Pending → A → Step) (e : Engine) (vertices : List ℤ) (polygons : List ℕ) (a : A)
-    (taken : ℕ) (r : Answer) (vs : List ℤ) (ps : List ℕ)
-    (is : fed taken r.number (machine_of r.engine vs ps)
-    ≡ list_by engine_rules step (machine_of e vertices polygons) (a ∷ []))
-    (place : r.place ≡ 0) where
+    (taken number : ℕ) (f : Engine) (vs : List ℤ) (ps : List ℕ)
+    (is : fed taken number (machine_of f vs ps)
+    ≡ list_by engine_rules step (machine_of e vertices polygons) (a ∷ [])) where
   abbrev x : Reply (Buffered Core)
   x = call_by engine_rules step (machine_of e vertices polygons) a
 
-  told : fed taken r.number (machine_of r.engine vs ps) ≡ fed (cond (eqb x.number 0) 1 0) x.number x.left
+  told : fed taken number (machine_of f vs ps) ≡ fed (cond (eqb x.number 0) 1 0) x.number x.left
   told =
       is ∙ list-some engine_rules step (machine_of e vertices polygons) a []
       ∙ one (call_by engine_rules step) (machine_of e vertices polygons) a
 
-  pub one-reply : reply_of r vs ps ≡ x
+  pub one-reply : reply number (machine_of f vs ps) ≡ x
   one-reply = λ i. record {
     number = (told i).number;
-    place = (place ∙ sym (no_place step (machine_of e vertices polygons) a)) i;
+    place = (sym (no_place step (machine_of e vertices polygons) a)) i;
     left = (told i).left;
   }
 
-  pub one-given-back : ((r.number ≡ 0 → ⊥) → taken ≡ 0 → r.engine ≡ e) → GivenBack e r
+  pub one-given-back : ((number ≡ 0 → ⊥) → taken ≡ 0 → f ≡ e) → (number ≡ 0 → ⊥) → f ≡ e
   one-given-back back n =
       back n
       (ap (λ (f : Fed (Buffered Core)). f.taken) told

@@ -6,27 +6,59 @@
 ghost use Rattle.std.specs.Prelude.{◌≡◌};
 ghost use Rattle.stream.specs.Command.{write};
 ghost use Rattle.stream.specs.Read.{writes};
+ghost use Rattle.stream.specs.Call.{reply};
 ghost use Rattle.stream.specs.Feed.{place_of};
+ghost use Rattle.stream.specs.Refusal.{call_number};
 ghost use Rattle.execute.specs.Call.{machine_of, reply_of, GivenBack, word_reply, port_reply};
 ghost use Rattle.execute.specs.Call.{fed_of, FirstGivenBack, words_reply, writes_reply, feed_as};
 
-use feeding::feed_items;
-use state::{Answer, Engine, ListAnswer};
+use feeding::{Fed, feed_items};
+use state::{Answer, Engine, ListAnswer, answered};
+use stream::{Refusal, call_number};
 
-// One packed word: a command word, a parameter or a dummy. Refused with 1, 2, 4 or 3, in this order; a refused call
-// hands back the engine that it was given and leaves both buffers as they were.
+// One packed word on the engine where it stands: a command word, a parameter or a dummy. Refused with 1, 2, 4 or 3, in
+// this order; a refused call leaves the engine and both buffers as they were.
+pub fn word_in_place(
+    engine: &mut Engine,
+    w: u32,
+    vertices: &mut [i32],
+    polygons: &mut [u32],
+) -> Option<Refusal>
+    ensures reply { reply (call_number result) (machine_of engine.new vertices.new polygons.new)
+        ≡ word_reply (machine_of engine.old vertices.old polygons.old) w }
+    ensures given_back { (call_number result ≡ 0 → ⊥) → engine.new ≡ engine.old }
+{
+    feed_items(false, engine, &[w], vertices, polygons).refusal
+}
+
+// The same on an engine by value; a refused call hands back the engine that it was given.
 pub fn word(e: Engine, w: u32, vertices: &mut [i32], polygons: &mut [u32]) -> Answer
     ensures reply { reply_of result vertices.new polygons.new
         ≡ word_reply (machine_of e vertices.old polygons.old) w }
     ensures given_back { GivenBack e result }
 {
-    let words = [w];
-    let mut taken: usize = 0;
-    feed_items(false, e, &words, &mut taken, &mut *vertices, &mut *polygons)
+    let mut engine = e;
+    let refusal = word_in_place(&mut engine, w, vertices, polygons);
+    answered(refusal, engine)
 }
 
-// One port write. Refused with 1, 2, 5, 4 or 6, in this order; a refused call hands back the engine that it was given
-// and leaves both buffers as they were.
+// One port write on the engine where it stands. Refused with 1, 2, 5, 4 or 6, in this order.
+fn port_write_in_place(
+    engine: &mut Engine,
+    address: u32,
+    value: u32,
+    vertices: &mut [i32],
+    polygons: &mut [u32],
+) -> Option<Refusal>
+    ensures reply { reply (call_number result) (machine_of engine.new vertices.new polygons.new)
+        ≡ port_reply (machine_of engine.old vertices.old polygons.old) (write address value) }
+    ensures given_back { (call_number result ≡ 0 → ⊥) → engine.new ≡ engine.old }
+{
+    feed_items(true, engine, &[address, value], vertices, polygons).refusal
+}
+
+// The same on an engine by value; a refused call hands back the engine that it was given and leaves both buffers as they
+// were.
 pub fn port_write(
     e: Engine,
     address: u32,
@@ -38,19 +70,19 @@ pub fn port_write(
         ≡ port_reply (machine_of e vertices.old polygons.old) (write address value) }
     ensures given_back { GivenBack e result }
 {
-    let log = [address, value];
-    let mut taken: usize = 0;
-    feed_items(true, e, &log, &mut taken, &mut *vertices, &mut *polygons)
+    let mut engine = e;
+    let refusal = port_write_in_place(&mut engine, address, value, vertices, polygons);
+    answered(refusal, engine)
 }
 
 // The refused item's index, which is how many were taken before it; 0 where none is refused.
-fn place_of(number: u32, taken: usize) -> usize
-    ensures { result ≡ place_of number taken }
+fn place_of(refusal: Option<Refusal>, taken: usize) -> usize
+    ensures { result ≡ place_of (call_number refusal) taken }
 {
-    if number == 0 { 0 } else { taken }
+    if refusal.is_some() { taken } else { 0 }
 }
 
-// Words as they are, or as the port writes of a log, in one call. For the crates above this one.
+// Words as they are, or as the port writes of a log, in one call. For the crates above.
 pub fn feed_as(
     log: bool,
     e: Engine,
@@ -63,14 +95,13 @@ pub fn feed_as(
     ensures place_value { result.place ≡ place_of result.number result.taken }
     ensures first_given_back { FirstGivenBack e result }
 {
-    let mut taken: usize = 0;
-    let answer = feed_items(log, e, words, &mut taken, &mut *vertices, &mut *polygons);
-    let engine = answer.engine;
+    let mut engine = e;
+    let Fed { taken, refusal } = feed_items(log, &mut engine, words, vertices, polygons);
     ListAnswer {
-        number: answer.number,
-        place: place_of(answer.number, taken),
-        taken: taken,
-        engine: engine,
+        number: call_number(refusal),
+        place: place_of(refusal, taken),
+        taken,
+        engine,
     }
 }
 
@@ -87,7 +118,7 @@ pub fn feed_words(
     ensures place_value { result.place ≡ place_of result.number result.taken }
     ensures first_given_back { FirstGivenBack e result }
 {
-    feed_as(false, e, words, &mut *vertices, &mut *polygons)
+    feed_as(false, e, words, vertices, polygons)
 }
 
 // The port writes of a log in one call, in the same way: the other side of demand 3. A last number without a partner is
@@ -98,5 +129,5 @@ pub fn feed_writes(e: Engine, log: &[u32], vertices: &mut [i32], polygons: &mut 
     ensures place_value { result.place ≡ place_of result.number result.taken }
     ensures first_given_back { FirstGivenBack e result }
 {
-    feed_as(true, e, log, &mut *vertices, &mut *polygons)
+    feed_as(true, e, log, vertices, polygons)
 }

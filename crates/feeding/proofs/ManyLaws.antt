@@ -18,7 +18,7 @@ use Rattle.state.specs.declared.Engine.{Engine}
 use Rattle.polygons.specs.Buffers.{Buffered}
 use Rattle.turns.specs.declared.Begun.{Begun}
 use Rattle.turns.specs.declared.Turn.{Turn}
-use Rattle.turns.specs.Inside.{AllTaken, no_item, one-item}
+use Rattle.turns.specs.Inside.{command_in, AllTaken, no_item, one-item}
 use Rattle.turns.specs.Inside.{due_of, pending_due, given_by, Turned}
 use Rattle.execute.specs.Call.{exec, engine_rules}
 use Rattle.execute.specs.Inside.{first_number}
@@ -76,15 +76,15 @@ module _ (e : Engine) (vertices : List ℤ) (polygons : List ℕ)
     (machine (run exec (due_of b) t) (pending_due b old))) where
   -- the command that it gives has run, and those that are due then are to run
   pub after_turn : Between e vertices polygons (call_by engine_rules step) ws r.next
-      (machine (run exec (due_of r.begun) (run exec (given_by r.command new) t)) (pending_due r.begun new))
+      (machine (run exec (due_of r.begun) (run exec (given_by (command_in r.outcome) new) t)) (pending_due r.begun new))
   after_turn =
       let l : List A = take u.many (drop i ws) in
       let size : length l ≡ u.many = length-take-le u.many (drop i ws)
       (omega (arith, u.within, length-drop i ws)) in
       let ran : run exec u.completed (run exec (due_of b) t)
-      ≡ run exec (due_of r.begun) (run exec (given_by r.command new) t) =
+      ≡ run exec (due_of r.begun) (run exec (given_by (command_in r.outcome) new) t) =
       sym (run-append exec (due_of b) u.completed t) ∙ ap (λ (cs : List Command). run exec cs t) u.order
-      ∙ run-append exec (given_by r.command new) (due_of r.begun) t in
+      ∙ run-append exec (given_by (command_in r.outcome) new) (due_of r.begun) t in
       rw (u.next, ← size, ← ran)
       (many-taken e vertices polygons first step keeps ws l i (run exec (due_of b) t) (pending_due b old)
       (pending_due r.begun new) u.completed (drop u.many (drop i ws)) at

@@ -1,9 +1,8 @@
 -- Inner: what a turn promises to the feed. No contract of a call cites it, and a reader need not believe it.
 use Rattle.std.specs.Prelude.{Bool, true, false, cond, ◌||◌, List, [], ◌∷◌, ◌++◌, map, ◌≡◌, ℕ, ◌+◌, ◌-◌, ◌*◌, ◌/◌, ◌%◌, ◌^◌, ◌≤◌, ◌<◌, eqb, length, get_or, take, drop}
-use Rattle.std.specs.Prelude.{Option, Some, None}
 use Rattle.std.proofs.lemmas.List.Edits.{sets}
 use Rattle.commands.specs.Commands.{known, count, command_at, command_bytes, hole}
-use Rattle.stream.specs.Refusal.{number_of}
+use Rattle.stream.specs.Refusal.{call_number}
 use Rattle.stream.specs.Pending.{Pending, queued, commands_of}
 use Rattle.stream.specs.Command.{takes_none, Command, command, Write, write}
 use Rattle.stream.specs.Read.{writes}
@@ -68,8 +67,7 @@ has_ended (Ends refusal) = true
 abbrev pub number_in : Outcome → ℕ
 number_in (Runs c) = 0
 number_in GoesOn = 0
-number_in (Ends None) = 0
-number_in (Ends (Some refusal)) = number_of refusal
+number_in (Ends refusal) = call_number refusal
 
 -- the items from the i-th on, so many, are those of some values, which are held from place `to` on
 pub record Held {A : Type 0} (item : ℕ → A) (items : List A) (i : ℕ) (old : List ℕ) (to : ℕ) (new : List ℕ) (many : ℕ)

@@ -1,18 +1,15 @@
-use mathlib.Core.Path.{ap}
-use Rattle.state.specs.declared.Answer.{Answer}
-use Rattle.feeding.proofs.LoopLaws.{refused_as, told_none}
-use borrow.Author.Rules.{rules}
+use mathlib.Core.Path.{sym, ◌∙◌}
+use Rattle.stream.specs.Refusal.{call_number}
+use Rattle.stream.proofs.RefusalLaws.{some_number, none-number}
+use Rattle.feeding.proofs.LoopLaws.{told_none}
 use Rattle.feeding.proofs.feed_items.Goals as goal
 
-pub returns-then-number-eq0 : goal.returns-then-number-eq0
-returns-then-number-eq0 c = search rules
+pub returns-then-is_some : goal.returns-then-is_some
+returns-then-is_some c =
+    told_none (call_number c.first_refusal-refusal.result) c.first_refusal-refusal.ensures
+    (some_number c.first_refusal-refusal.result (sym c.is_some.ensures ∙ c.if-is_some.true))
 
-pub returns : goal.returns
-returns c =
-    record {
-      fed_to = told_none c.requires c.answered.result c.answered.ensures
-          (refused_as c.args.e c.args.vertices.now c.args.polygons.now c.args.words.now c.args.log
-          c.first_number-number.result c.first_number-number.ensures
-          c.if-number-eq0.false);
-      place_value = ap (λ (x : Answer). x.place) c.answered.ensures;
-    }
+pub run_turns-requires : goal.run_turns-requires
+run_turns-requires c =
+    sym c.first_refusal-refusal.ensures
+    ∙ none-number c.first_refusal-refusal.result (sym c.is_some.ensures ∙ c.if-is_some.false)
