@@ -2,11 +2,8 @@
 use mathlib.Core.Bool.{Bool, true, false}
 use mathlib.Core.List.{List, [], ◌∷◌}
 use mathlib.Core.Path.{◌≡◌, refl, sym, ap}
-use Prim.Native.Nat.{ℕ, ◌+◌, ◌≤◌, ◌<◌}
-use native.Mathlib.Numerals.{add-one}
+use Prim.Native.Nat.{ℕ, ◌≤◌}
 use native.Mathlib.Omega.{arith}
-use lib.ListN.{length, get_or, drop}
-use lib.Seq.{drop-cons}
 use mir.Syntax.{w32}
 use mir.Val.{bool_byte}
 use Rattle.std.specs.Prelude.{map, Option, Some, None, is_some, unwrap_or}
@@ -65,10 +62,6 @@ module _ (b : ℕ) (bs : List ℕ) (k : known b ≡ false) where
 
 pub none_known : (bs : List ℕ) → any_known bs ≡ false → commands_in bs ≡ []
 none_known bs = none-behind (map counted bs)
-
--- the bytes from the i-th on
-pub bytes_from : (bs : List ℕ) (i : ℕ) → i < length bs → drop i bs ≡ get_or bs i 0 ∷ drop (i + 1) bs
-bytes_from bs i h = rw (add-one i) (drop-cons bs i 0 h)
 
 -- what a byte's lookup says
 pub takes : (b n : ℕ) → Some n ≡ lookup b → (known b ≡ true) × (n ≡ count b) × (n ≤ 32)

@@ -7,10 +7,10 @@ use native.Mathlib.Numerals.{add-one}
 use native.Mathlib.Omega.{arith}
 use lib.Dec.{eqb}
 use lib.ListN.{length, get_or, take, drop, set, length-drop}
-use lib.Seq.{sets, length-sets, length-take-le, drop-drop, take-suc}
+use lib.Seq.{sets, length-sets, length-take-le, drop-drop}
 use Rattle.std.specs.Prelude.{Some, None}
 use Rattle.words.specs.Words.{over}
-use Rattle.words.proofs.Over.{sets-append, length_over, over_none, over-more}
+use Rattle.words.proofs.Over.{sets-append, take_next, length_over, over_none, over-more}
 use Rattle.commands.proofs.Table.{known-range}
 use Rattle.commands.specs.Commands.{lookup, known, count, port, command_bytes, hole}
 use Rattle.stream.specs.Pending.{commands_of}
@@ -46,7 +46,7 @@ put_more values a to old new j h e =
     v = get_or values j 0
 
     more : take (j + 1) values ≡ take j values ++ v ∷ []
-    more = rw (add-one j) (take-suc values j 0 h)
+    more = take_next values j 0 h
 
     written : length (log_of (writes_to a (take j values))) ≡ 2 * j
     written =

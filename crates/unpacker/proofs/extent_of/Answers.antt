@@ -3,8 +3,9 @@ use mathlib.Core.Path.{ap, ◌∙◌}
 use Prim.Native.Nat.{◌+◌}
 use native.Mathlib.Omega.{arith}
 use lib.ListN.{length, get_or, drop, drop_of_length-le}
+use Rattle.words.proofs.Over.{drop-next}
 use Rattle.stream.proofs.UnpackLaws.{writes_for_bounds}
-use Rattle.unpacker.proofs.ByteLaws.{bytes_from, takes, no_command, dummy_word}
+use Rattle.unpacker.proofs.ByteLaws.{takes, no_command, dummy_word}
 use Rattle.unpacker.proofs.ExtentLaws.{Extending, extent_start, extent_ended, extent_hole, extent_more, extent_end}
 use Rattle.unpacker.proofs.extent_of.Goals as goal
 use Rattle.unpacker.proofs.extent_of.Goals.{After-parameters, in-None, in-Some-2}
@@ -26,11 +27,11 @@ at-byte : (c : After-parameters)
 at-byte c =
     let bs = c.to_le_bytes-byte-items.result in
     let i = c.loop-byte.byte-index in
-    rw (bytes_from bs i (omega (arith, ap length c.to_le_bytes-byte-items.ensures))) at c.loop-byte.invariant.so_far
+    rw (drop-next bs i 0 (omega (arith, ap length c.to_le_bytes-byte-items.ensures))) at c.loop-byte.invariant.so_far
 
 pub returns-in-Some : goal.returns-in-Some
 returns-in-Some c =
-    let b = takes _ _ (c.in-Some.ensures) in
+    let b = takes _ _ c.in-Some.ensures in
     let h = extent_hole (at-byte (goal.at.returns-in-Some c).After-parameters) b.0 c.if-ended.true in
     rw h
 
@@ -43,14 +44,14 @@ pub loop-byte-preserved : goal.loop-byte-preserved
 loop-byte-preserved c =
     elim c.match-parameters.branch [
       | in-None w ↦
-          (let s = extent_ended (at-byte (goal.at.loop-byte-preserved c).After-parameters) (no_command _ (w.in-None.ensures)) in
+          (let s = extent_ended (at-byte (goal.at.loop-byte-preserved c).After-parameters) (no_command _ w.in-None.ensures) in
           record {
             so_far = rw (w.words-is, w.writes-is, w.dummy-is, w.ended-is) s;
             words_few = omega arith;
             writes_few = omega arith;
           })
       | in-Some-2 w ↦
-          (let b = takes _ _ (w.in-Some.ensures) in
+          (let b = takes _ _ w.in-Some.ensures in
           let s = extent_more (at-byte (goal.at.loop-byte-preserved c).After-parameters) b.0 w.if-ended.false _ _ b.1 w.writes_for-writes.ensures in
           record {
             so_far = rw (w.words-is, w.writes-is, w.dummy-is, w.ended-is) s;
