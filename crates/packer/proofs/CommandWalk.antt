@@ -2,12 +2,12 @@
 use mathlib.Core.Bool.{Bool, true, false, cond}
 use mathlib.Core.List.{List, [], ◌∷◌, ◌++◌}
 use mathlib.Core.Path.{◌≡◌, refl, sym, ap, ◌∙◌}
-use Prim.Native.Nat.{ℕ, zero, suc, ◌+◌, ◌*◌, ◌≤◌, ◌<◌, min}
+use Prim.Native.Nat.{ℕ, zero, suc, ◌+◌, ◌≤◌, ◌<◌, min}
 use native.Mathlib.Nat.{add_assoc}
 use native.Mathlib.Numerals.{add-one}
 use native.Mathlib.Omega.{arith}
 use lib.Dec.{ltb, eqb}
-use lib.ListN.{length, get_or, take, drop, length-drop, drop_of_length-le}
+use lib.ListN.{length, take, drop, length-drop, drop_of_length-le}
 use lib.Seq.{get_or-drop, length-take-le}
 use borrow.Author.Tests.{eq-eqb, ne_eqb, lt-ltb, le-ltb, ltb-true, ltb-false, eqb-true, eqb-false}
 use Rattle.words.proofs.Over.{drop-next}
@@ -16,16 +16,13 @@ use Rattle.commands.proofs.Commands.{port_of_command}
 use Rattle.stream.specs.Pending.{Pending, idle, port_pending}
 use Rattle.stream.specs.Command.{takes_none, Command, command, Write, write}
 use Rattle.stream.specs.Step.{accepted, case_step, held_with, port_parameter, port_step}
-use Rattle.stream.specs.Read.{Read, stopped, commands, prepend, scan, writes}
+use Rattle.stream.specs.Read.{Read, stopped, commands, prepend, scan}
 use Rattle.stream.specs.Unpack.{writes_for}
 use Rattle.stream.proofs.CommandLaws.{takes_none-count, takes_some_count, count_takes_some}
 use Rattle.stream.proofs.ReadLaws.{stopped-not, prepend-none, idle_any}
 use Rattle.stream.proofs.UnpackLaws.{writes_for_none, writes_for_some, writes_for_bounds}
-use Rattle.stream.proofs.WriteLaws.{writes_at}
-use Rattle.packer.specs.declared.Found.{Found}
-use Rattle.packer.specs.Inside.{IsLog, rest_commands, values, AtPort, write_at, byte_at, Begins}
-use Rattle.packer.specs.Inside.{Finds}
-use Rattle.packer.proofs.ValueLaws.{length_pairs, length-values, values-more}
+use Rattle.packer.specs.Inside.{rest_commands, values, AtPort, write_at, byte_at, Begins}
+use Rattle.packer.proofs.ValueLaws.{length-values, values-more}
 
 -- the values of the first j writes from i on, as far as command c takes them
 abbrev held_at : List Write → ℕ → ℕ → ℕ → List ℕ
@@ -164,120 +161,80 @@ module _ (ws : List Write) (i : ℕ) where
           add_assoc i j 1,
         )
 
--- ---- the loop that looks for the next command: j writes from i on have gone to the port of c, which takes n
+-- ---- the loop that looks for the next command: j writes from i on have gone to one port, that of a command of n
 
-pub record Walking (log : List ℕ) (pairs i address c n j : ℕ) : Type 0 where
-  pub is_log : IsLog log pairs
-  pub address_is : address ≡ get_or log (2 * i) 0
-  pub byte-is : command_at address ≡ c
-  pub is-command : c ≡ 0 → ⊥
-  pub counted : n ≡ count c
+pub record Walking (ws : List Write) (i address n j : ℕ) : Type 0 where
+  pub address_is : address ≡ (write_at ws i).address
+  pub at_port : AtPort ws i n
   pub some : 1 ≤ j
   pub most : j ≤ writes_for n
-  pub within : i + j ≤ pairs
-  pub read : rest_commands i (writes log) ≡ on_port (writes log) i c j
-
--- the address of a write
-address-at : {log : List ℕ} {pairs : ℕ} → IsLog log pairs → (k : ℕ) → k < pairs
-    → (write_at (writes log) k).address ≡ get_or log (2 * k) 0
-address-at {log} l k h = ap (λ (w : Write). w.address) (writes_at log k (omega (arith, l.even)))
-
-pub byte-at : {log : List ℕ} {pairs : ℕ} → IsLog log pairs → (k : ℕ) → k < pairs
-    → byte_at (writes log) k ≡ command_at (get_or log (2 * k) 0)
-byte-at l k h = ap command_at (address-at l k h)
+  pub within : i + j ≤ length ws
+  pub read : rest_commands i ws ≡ on_port ws i (byte_at ws i) j
 
 -- two addresses of one command are one
 same-port : (a b : ℕ) → (command_at a ≡ 0 → ⊥) → (command_at b ≡ 0 → ⊥) → command_at a ≡ command_at b → a ≡ b
 same-port a b n m e =
     (port_of_command a n).is-port ∙ ap port e ∙ sym (port_of_command b m).is-port
 
-module _ {log : List ℕ} {pairs : ℕ} (l : IsLog log pairs) (i : ℕ) (h : i < pairs) where
-  pub walk_none : command_at (get_or log (2 * i) 0) ≡ 0 → rest_commands i (writes log) ≡ stopped 5 i
-  walk_none z = no_command (writes log) i (omega (arith, length_pairs l)) (byte-at l i h ∙ z)
+module _ (ws : List Write) (i : ℕ) (h : i < length ws) where
+  pub walk_none : byte_at ws i ≡ 0 → rest_commands i ws ≡ stopped 5 i
+  walk_none z = no_command ws i h z
 
-  pub walk_start : (n : ℕ) → AtPort log i n
-      → Walking log pairs i (get_or log (2 * i) 0) (command_at (get_or log (2 * i) 0)) n 1
-  walk_start n p = record {
-    is_log = l;
+  pub walk_start : {n : ℕ} → AtPort ws i n → Walking ws i (write_at ws i).address n 1
+  walk_start {n} p = record {
     address_is = refl;
-    byte-is = refl;
-    is-command = p.is-command;
-    counted = p.counted;
+    at_port = p;
     some = omega arith;
     most = omega (arith, writes_for_bounds n);
     within = omega arith;
-    read = begins (writes log) i (command_at (get_or log (2 * i) 0)) (omega (arith, length_pairs l)) (byte-at l i h)
-        p.is-command;
+    read = begins ws i (byte_at ws i) h refl p.is-command;
   }
 
-module _ {log : List ℕ} {pairs i address c n j : ℕ} (w : Walking log pairs i address c n j) where
-  long : length (writes log) ≡ pairs
-  long = length_pairs w.is_log
-
-  pub walk_end : n ≤ j → Begins (writes log) i n
+module _ {ws : List Write} {i address n j : ℕ} (w : Walking ws i address n j) where
+  pub walk_end : n ≤ j → Begins ws i n
   walk_end h = by n refl
     where
-      begun : j ≡ writes_for n → Begins (writes log) i n
-      begun e =
-          let b : byte_at (writes log) i ≡ c =
-          byte-at w.is_log i (omega (arith, w.within, w.some)) ∙ ap command_at (sym w.address_is) ∙ w.byte-is in
-          record {
-            read = w.read ∙ complete (writes log) i c j (omega (arith, w.counted)) ∙ rw (b, e, w.counted);
-            counted = w.counted ∙ ap count (sym b);
-            within = omega (arith, w.within, long);
-          }
+      begun : j ≡ writes_for n → Begins ws i n
+      begun e = record {
+        read = w.read ∙ complete ws i (byte_at ws i) j (omega (arith, w.at_port.counted))
+            ∙ rw (e, w.at_port.counted);
+        counted = w.at_port.counted;
+        within = omega (arith, w.within);
+      }
 
-      by : (m : ℕ) → n ≡ m → Begins (writes log) i n
+      by : (m : ℕ) → n ≡ m → Begins ws i n
       by zero e = begun (omega (arith, writes_for_none n e, w.most, w.some))
       by (suc m) e = begun (omega (arith, writes_for_some n (omega arith), w.most))
 
   module _ (t : j < n) where
-    few : j < count c
-    few = omega (arith, w.counted)
+    few : j < count (byte_at ws i)
+    few = omega (arith, w.at_port.counted)
 
-    pub walk_short : pairs ≤ i + j → rest_commands i (writes log) ≡ stopped 8 i
-    walk_short h = w.read ∙ ends (writes log) i c j few w.is-command (omega (arith, long))
+    pub walk_short : length ws ≤ i + j → rest_commands i ws ≡ stopped 8 i
+    walk_short h = w.read ∙ ends ws i (byte_at ws i) j few w.at_port.is-command h
 
-    module _ (h : i + j < pairs) where
-      inside : i + j < length (writes log)
-      inside = omega (arith, long)
+    module _ (h : i + j < length ws) where
+      pub walk_no_port : byte_at ws (i + j) ≡ 0 → rest_commands i ws ≡ stopped 5 (i + j)
+      walk_no_port z = w.read ∙ no_port ws i (byte_at ws i) j few w.at_port.is-command h z
 
-      there : byte_at (writes log) (i + j) ≡ command_at (get_or log (2 * (i + j)) 0)
-      there = byte-at w.is_log (i + j) h
-
-      pub walk_no_port : command_at (get_or log (2 * (i + j)) 0) ≡ 0 → rest_commands i (writes log) ≡ stopped 5 (i + j)
-      walk_no_port z = w.read ∙ no_port (writes log) i c j few w.is-command inside (there ∙ z)
-
-      pub walk_other : (get_or log (2 * (i + j)) 0 ≡ address → ⊥) → (command_at (get_or log (2 * (i + j)) 0) ≡ 0 → ⊥)
-          → rest_commands i (writes log) ≡ stopped 6 (i + j)
+      pub walk_other : ((write_at ws (i + j)).address ≡ address → ⊥) → (byte_at ws (i + j) ≡ 0 → ⊥)
+          → rest_commands i ws ≡ stopped 6 (i + j)
       walk_other d z =
           w.read
-          ∙ other_port (writes log) i c j few w.is-command inside (λ q. z (sym there ∙ q))
-          (λ q. d (same-port (get_or log (2 * (i + j)) 0) address z (λ p. w.is-command (sym w.byte-is ∙ p))
-          (sym there ∙ q ∙ sym w.byte-is)))
+          ∙ other_port ws i (byte_at ws i) j few w.at_port.is-command h z
+          (λ q. d (same-port (write_at ws (i + j)).address (write_at ws i).address z w.at_port.is-command q
+          ∙ sym w.address_is))
 
-      pub walk_more : get_or log (2 * (i + j)) 0 ≡ address → Walking log pairs i address c n (j + 1)
+      pub walk_more : (write_at ws (i + j)).address ≡ address → Walking ws i address n (j + 1)
       walk_more q = record {
-        is_log = w.is_log;
         address_is = w.address_is;
-        byte-is = w.byte-is;
-        is-command = w.is-command;
-        counted = w.counted;
+        at_port = w.at_port;
         some = omega arith;
         most = omega (arith, writes_for_some n (omega arith));
         within = omega arith;
         read = w.read
-            ∙ goes_on (writes log) i c j few w.is-command inside (there ∙ ap command_at q ∙ w.byte-is);
+            ∙ goes_on ws i (byte_at ws i) j few w.at_port.is-command h (ap command_at (q ∙ w.address_is));
       }
-
--- a refusal, and a command
-pub not_found : {ws : List Write} {i n p : ℕ} {r : Found} → r ≡ record { number = n; place = p; count = 0 } → 1 ≤ n
-    → rest_commands i ws ≡ stopped n p → Finds ws i r
-not_found e s q = rw e (record { refused = λ _. q; found = λ z. absurd (omega arith) })
-
-pub is_found : {ws : List Write} {i n : ℕ} {r : Found} → r ≡ record { number = 0; place = 0; count = n }
-    → Begins ws i n → Finds ws i r
-is_found e b = rw e (record { refused = λ d. absurd (d refl); found = λ _. b })
 
 -- ---- in an accepted log a command begins where none is pending
 

@@ -1,6 +1,6 @@
 -- The commands of one command word, taken from a log one by one, and packed words group by group: the invariants of the
 -- loops that measure.
-use mathlib.Core.Bool.{Bool, false}
+use mathlib.Core.Bool.{Bool, true, false}
 use mathlib.Core.List.{List, [], ◌∷◌, ◌++◌, append_assoc, append-nil}
 use mathlib.Core.Logic.{◌⊎◌, inl, inr}
 use mathlib.Core.Path.{◌≡◌, refl, sym, ap, ◌∙◌}
@@ -9,20 +9,22 @@ use native.Mathlib.Omega.{arith}
 use lib.Dec.{eqb}
 use lib.ListN.{length, take, drop, length-append, length-drop, drop_of_length-le}
 use lib.Seq.{length-take-le}
+use Rattle.std.specs.Prelude.{Ok, Err}
+use Rattle.std.specs.Int.{from_bool}
 use Rattle.commands.proofs.Table.{count_small}
 use Rattle.stream.specs.Command.{takes_none, Command, Write}
-use Rattle.stream.specs.Read.{commands, prepend, writes, log_commands}
-use Rattle.stream.specs.Output.{refusal, answer_of, measured}
+use Rattle.stream.specs.declared.Refused.{Refused}
+use Rattle.stream.specs.Read.{commands, prepend, log_commands}
+use Rattle.stream.specs.Output.{answer_to, measured}
 use Rattle.stream.specs.Pack.{parameters_of, ends_with_none, dummy_if, group_words, packed_words, count_if}
 use Rattle.stream.specs.Unpack.{writes_for}
 use Rattle.stream.proofs.CommandLaws.{none-by-count}
 use Rattle.stream.proofs.ReadLaws.{prepend-none, prepend-append}
 use Rattle.stream.proofs.PackLaws.{parameters-append, one-most, length-dummy}
 use Rattle.stream.proofs.UnpackLaws.{writes_for_bounds}
-use Rattle.packer.specs.declared.Found.{Found}
 use Rattle.packer.specs.declared.Group.{Group}
-use Rattle.packer.specs.Inside.{IsLog, rest_commands, values, byte_at, command_from, Begins, Finds, IsGroup, Sizes}
-use Rattle.packer.proofs.ValueLaws.{length_pairs, length-values}
+use Rattle.packer.specs.Inside.{rest_commands, Stops, values, byte_at, command_from, Begins, IsGroup, SizedGroup}
+use Rattle.packer.proofs.ValueLaws.{length-values}
 
 -- ---- commands one by one
 
@@ -101,10 +103,9 @@ taken_more {ws} {i} {next} {slot} {size} {none} {cs} t few n b =
     by (suc s) e = omega (arith, t.on (omega arith), writes_for_bounds n)
 
 -- a whole group
-pub group-taken : {log : List ℕ} {pairs i next slot size : ℕ} {none : Bool} {cs : List Command}
-    → Taken (writes log) i next slot size none cs → IsLog log pairs → i < pairs → (slot ≡ 4) ⊎ (pairs ≤ next)
-    → IsGroup (writes log) i next cs
-group-taken {log} {pairs} {i} {next} {slot} {size} {none} {cs} t l h w = record {
+pub group-taken : {ws : List Write} {i next slot size : ℕ} {none : Bool} {cs : List Command}
+    → Taken ws i next slot size none cs → i < length ws → (slot ≡ 4) ⊎ (length ws ≤ next) → IsGroup ws i next cs
+group-taken {ws} {i} {next} {slot} {size} {none} {cs} t h w = record {
   read = t.read;
   some = omega (arith, one w slot refl, t.slots);
   most = omega (arith, t.most, t.slots);
@@ -113,71 +114,64 @@ group-taken {log} {pairs} {i} {next} {slot} {size} {none} {cs} t l h w = record 
   within = t.within;
 }
   where
-    one : (slot ≡ 4) ⊎ (pairs ≤ next) → (s : ℕ) → slot ≡ s → 1 ≤ slot
+    one : (slot ≡ 4) ⊎ (length ws ≤ next) → (s : ℕ) → slot ≡ s → 1 ≤ slot
     one (inl e) s q = omega arith
     one (inr e) zero q = absurd (omega (arith, t.none_yet q))
     one (inr e) (suc s) q = omega arith
 
-    ways : (slot ≡ 4) ⊎ (pairs ≤ next) → (length cs ≡ 4) ⊎ (next ≡ length (writes log))
+    ways : (slot ≡ 4) ⊎ (length ws ≤ next) → (length cs ≡ 4) ⊎ (next ≡ length ws)
     ways (inl e) = inl (sym t.slots ∙ e)
-    ways (inr e) = inr (omega (arith, t.within, length_pairs l))
+    ways (inr e) = inr (omega (arith, t.within))
 
 -- ---- the loop that measures a group
 
-pub record MeasuringGroup (log : List ℕ) (pairs i next slot size : ℕ) (none : Bool) : Type 0 where
-  pub is_log : IsLog log pairs
-  pub start : i < pairs
+-- as the code counts the dummy
+pub one-if : (b : Bool) → from_bool b ≡ count_if b 0
+one-if true = refl
+one-if false = refl
+
+pub record MeasuringGroup (ws : List Write) (i next slot size : ℕ) (none : Bool) : Type 0 where
+  pub few : length ws ≤ 4096
+  pub start : i < length ws
   pub cs : List Command
-  pub taken : Taken (writes log) i next slot size none cs
+  pub taken : Taken ws i next slot size none cs
 
-pub group-start : {log : List ℕ} {pairs : ℕ} (i : ℕ) → IsLog log pairs → i < pairs
-    → MeasuringGroup log pairs i i 0 0 false
-group-start {log} i l h =
-    record { is_log = l; start = h; cs = []; taken = none-taken (writes log) i (omega (arith, length_pairs l)) }
+pub group-start : {ws : List Write} {i : ℕ} → length ws ≤ 4096 → i < length ws → MeasuringGroup ws i i 0 0 false
+group-start {ws} {i} f h = record { few = f; start = h; cs = []; taken = none-taken ws i h }
 
-module _ {log : List ℕ} {pairs i next slot size : ℕ} {none : Bool}
-    (m : MeasuringGroup log pairs i next slot size none) where
+module _ {ws : List Write} {i next slot size : ℕ} {none : Bool} (m : MeasuringGroup ws i next slot size none) where
   pub group-bounds : (next ≤ 4096) × (size ≤ 128) × (slot ≤ 4)
   group-bounds = (
-    omega (arith, m.taken.within, m.is_log.few, length_pairs m.is_log),
+    omega (arith, m.taken.within, m.few),
     omega (arith, m.taken.small, m.taken.most),
     m.taken.most,
   )
 
-  module _ (r : Found) (f : Finds (writes log) next r) where
-    pub group-more-fits : r.number ≡ 0 → (next + writes_for r.count ≤ 4096) × (size + r.count ≤ 160)
-    group-more-fits z =
-        let b = f.found z in (
-          omega (arith, b.within, m.is_log.few, length_pairs m.is_log),
-          omega (arith, group-bounds.1, b.counted, count_small (byte_at (writes log) next)),
-        )
+  module _ {n : ℕ} (b : Begins ws next n) where
+    pub group-more-fits : (next + writes_for n ≤ 4096) × (size + n ≤ 160)
+    group-more-fits = (
+      omega (arith, b.within, m.few),
+      omega (arith, group-bounds.1, b.counted, count_small (byte_at ws next)),
+    )
 
-    pub group-more : slot < 4 → r.number ≡ 0
-        → MeasuringGroup log pairs i (next + writes_for r.count) (slot + 1) (size + r.count) (eqb r.count 0)
-    group-more h z = record {
-      is_log = m.is_log;
+    pub group-more : slot < 4 → MeasuringGroup ws i (next + writes_for n) (slot + 1) (size + n) (eqb n 0)
+    group-more h = record {
+      few = m.few;
       start = m.start;
-      cs = m.cs ++ command_from (writes log) next r.count ∷ [];
-      taken = taken_more m.taken h r.count (f.found z);
+      cs = m.cs ++ command_from ws next n ∷ [];
+      taken = taken_more m.taken h n b;
     }
 
-    pub group-stopped : (r.number ≡ 0 → ⊥)
-        → Sizes (writes log) i (record { number = r.number; place = r.place; next = 0; size = 0 })
-    group-stopped z = record {
-      refused = λ _. m.taken.read ∙ ap (prepend m.cs) (f.refused z);
-      sized = λ e. absurd (z e);
-    }
+  pub group-stopped : (r : Refused) → Stops ws next r → Stops ws i r
+  group-stopped r s = m.taken.read ∙ ap (prepend m.cs) s
 
-  pub group-end : (slot ≡ 4) ⊎ (pairs ≤ next)
-      → Sizes (writes log) i (record { number = 0; place = 0; next = next; size = 1 + size + count_if none 0 })
+  pub group-end : (slot ≡ 4) ⊎ (length ws ≤ next)
+      → SizedGroup ws i (record { next = next; size = 1 + size + count_if none 0 })
   group-end w = record {
-    refused = λ z. absurd (z refl);
-    sized = λ _. record {
-      cs = m.cs;
-      group = group-taken m.taken m.is_log m.start w;
-      counted = sym (length-group m.cs ∙ rw (m.taken.counted, m.taken.last));
-      small = omega (arith, m.taken.small, m.taken.most, one-most none);
-    };
+    cs = m.cs;
+    group = group-taken m.taken m.start w;
+    counted = sym (length-group m.cs ∙ rw (m.taken.counted, m.taken.last));
+    small = omega (arith, m.taken.small, m.taken.most, one-most none);
   }
 
 -- ---- packed words, group by group
@@ -201,32 +195,30 @@ packed-four (a ∷ b ∷ c ∷ d ∷ []) r m = refl
 packed-four (a ∷ b ∷ c ∷ d ∷ e ∷ g) r m = absurd (omega arith)
 
 -- the commands up to write i, in whole groups from the log's first write on
-pub record Passed (log : List ℕ) (pairs i : ℕ) (done : List Command) : Type 0 where
-  pub is_log : IsLog log pairs
-  pub within : i ≤ pairs
-  pub read : rest_commands 0 (writes log) ≡ prepend done (rest_commands i (writes log))
-  pub apart : i < pairs → (r : List Command) → packed_words (done ++ r) ≡ packed_words done ++ packed_words r
+pub record Passed (ws : List Write) (i : ℕ) (done : List Command) : Type 0 where
+  pub within : i ≤ length ws
+  pub read : rest_commands 0 ws ≡ prepend done (rest_commands i ws)
+  pub apart : i < length ws → (r : List Command) → packed_words (done ++ r) ≡ packed_words done ++ packed_words r
   pub small : length (packed_words done) ≤ 130 * i
 
-pub none_passed : {log : List ℕ} {pairs : ℕ} → IsLog log pairs → Passed log pairs 0 []
+pub none_passed : (ws : List Write) → Passed ws 0 []
 unfolding packed_words
-none_passed {log} l = record {
-  is_log = l;
+none_passed ws = record {
   within = omega arith;
-  read = sym (prepend-none (rest_commands 0 (writes log)));
+  read = sym (prepend-none (rest_commands 0 ws));
   apart = λ h r. refl;
   small = omega arith;
 }
 
-module _ {log : List ℕ} {pairs i : ℕ} {done : List Command} (p : Passed log pairs i done) where
-  module _ (h : i < pairs) {next : ℕ} {cs : List Command} (g : IsGroup (writes log) i next cs) where
+module _ {ws : List Write} {i : ℕ} {done : List Command} (p : Passed ws i done) where
+  module _ (h : i < length ws) {next : ℕ} {cs : List Command} (g : IsGroup ws i next cs) where
     pub one_more : packed_words (done ++ cs) ≡ packed_words done ++ group_words cs
     one_more = p.apart h cs ∙ ap (λ (l : List ℕ). packed_words done ++ l) (packed-one cs g.some g.most)
 
     pub length_more : length (packed_words (done ++ cs)) ≡ length (packed_words done) + length (group_words cs)
     length_more = ap length one_more ∙ length-append (packed_words done) (group_words cs)
 
-    apart_more : next < pairs → (length cs ≡ 4) ⊎ (next ≡ length (writes log)) → (r : List Command)
+    apart_more : next < length ws → (length cs ≡ 4) ⊎ (next ≡ length ws) → (r : List Command)
         → packed_words ((done ++ cs) ++ r) ≡ packed_words (done ++ cs) ++ packed_words r
     apart_more k (inl e) r =
         rw (append_assoc done cs r)
@@ -234,24 +226,20 @@ module _ {log : List ℕ} {pairs i : ℕ} {done : List Command} (p : Passed log 
         ∙ ap (λ (l : List ℕ). packed_words done ++ l) (packed-four cs r e)
         ∙ sym (append_assoc (packed_words done) (group_words cs) (packed_words r))
         ∙ ap (λ (l : List ℕ). l ++ packed_words r) (sym one_more))
-    apart_more k (inr e) r = absurd (omega (arith, length_pairs p.is_log))
+    apart_more k (inr e) r = absurd (omega arith)
 
-    pub passed-more : length (group_words cs) ≤ 130 → Passed log pairs next (done ++ cs)
+    pub passed-more : length (group_words cs) ≤ 130 → Passed ws next (done ++ cs)
     passed-more s = record {
-      is_log = p.is_log;
-      within = omega (arith, g.within, length_pairs p.is_log);
-      read = p.read ∙ ap (prepend done) g.read ∙ prepend-append done cs (rest_commands next (writes log));
+      within = g.within;
+      read = p.read ∙ ap (prepend done) g.read ∙ prepend-append done cs (rest_commands next ws);
       apart = λ k. apart_more k g.full;
       small = omega (arith, length_more, p.small, g.on);
     }
 
   -- the end of the log
-  pub all-passed : pairs ≤ i → rest_commands 0 (writes log) ≡ commands done
+  pub all-passed : length ws ≤ i → rest_commands 0 ws ≡ commands done
   unfolding rest_commands
-  all-passed h =
-      p.read
-      ∙ rw (drop_of_length-le (writes log) {i = i} (omega (arith, length_pairs p.is_log)))
-      (ap commands (append-nil done))
+  all-passed h = p.read ∙ rw (drop_of_length-le ws {i = i} h) (ap commands (append-nil done))
 
 pub from_first : (l : List Write) → log_commands l ≡ rest_commands 0 l
 unfolding rest_commands log_commands
@@ -259,41 +247,33 @@ from_first l = refl
 
 -- ---- the loop that measures a log
 
-pub record Measuring (log : List ℕ) (pairs i total : ℕ) : Type 0 where
+pub record Measuring (ws : List Write) (i total : ℕ) : Type 0 where
+  pub few : length ws ≤ 4096
   pub done : List Command
-  pub passed : Passed log pairs i done
+  pub passed : Passed ws i done
   pub total_is : total ≡ length (packed_words done)
 
-pub measure_start : {log : List ℕ} {pairs : ℕ} → IsLog log pairs → Measuring log pairs 0 0
+pub measure_start : {ws : List Write} → length ws ≤ 4096 → Measuring ws 0 0
 unfolding packed_words
-measure_start l = record { done = []; passed = none_passed l; total_is = refl }
+measure_start {ws} f = record { few = f; done = []; passed = none_passed ws; total_is = refl }
 
-module _ {log : List ℕ} {pairs i total : ℕ} (m : Measuring log pairs i total) where
+module _ {ws : List Write} {i total : ℕ} (m : Measuring ws i total) where
   pub total_small : (total ≤ 130 * i) × (i ≤ 4096)
   total_small = (
     omega (arith, m.total_is, m.passed.small),
-    omega (arith, m.passed.within, m.passed.is_log.few),
+    omega (arith, m.passed.within, m.few),
   )
 
-  module _ (r : Group) (s : Sizes (writes log) i r) where
-    pub measure_next : r.number ≡ 0 → (i < r.next) × (r.size ≤ 130) × (r.next ≤ pairs)
-    measure_next z =
-        let g = s.sized z in
-        (g.group.on, g.small, omega (arith, g.group.within, length_pairs m.passed.is_log))
+  pub measure_more : i < length ws → {r : Group} → SizedGroup ws i r → Measuring ws r.next (total + r.size)
+  measure_more h g = record {
+    few = m.few;
+    done = m.done ++ g.cs;
+    passed = passed-more m.passed h g.group (omega (arith, g.counted, g.small));
+    total_is = omega (arith, m.total_is, g.counted, length_more m.passed h g.group);
+  }
 
-    pub measure_more : i < pairs → r.number ≡ 0 → Measuring log pairs r.next (total + r.size)
-    measure_more h z =
-        let g = s.sized z in
-        record {
-          done = m.done ++ g.cs;
-          passed = passed-more m.passed h g.group (omega (arith, g.counted, g.small));
-          total_is = omega (arith, m.total_is, g.counted, length_more m.passed h g.group);
-        }
+  pub measure_stopped : (r : Refused) → Stops ws i r → answer_to (Err r) ≡ measured packed_words (log_commands ws)
+  measure_stopped r s = rw (from_first ws, m.passed.read, s)
 
-    pub measure_stopped : (r.number ≡ 0 → ⊥)
-        → answer_of (refusal r.number r.place) ≡ measured packed_words (log_commands (writes log))
-    measure_stopped z = rw (from_first (writes log), m.passed.read, s.refused z)
-
-  pub measure_end : pairs ≤ i
-      → record { number = 0; place = 0; length = total } ≡ measured packed_words (log_commands (writes log))
-  measure_end h = rw (from_first (writes log), all-passed m.passed h, m.total_is)
+  pub measure_end : length ws ≤ i → answer_to (Ok total) ≡ measured packed_words (log_commands ws)
+  measure_end h = rw (from_first ws, all-passed m.passed h, m.total_is)

@@ -1,30 +1,32 @@
 -- The pass that writes a log's packed words: what is still to come of an accepted log, the room for it, and the
 -- invariants of its two loops.
 use mathlib.Core.Bool.{Bool, true, false}
-use mathlib.Core.List.{List, [], ◌∷◌, ◌++◌, append-nil}
+use mathlib.Core.List.{List, [], ◌∷◌, ◌++◌, append_assoc, append-nil}
 use mathlib.Core.Logic.{◌⊎◌, inl, inr}
 use mathlib.Core.Path.{◌≡◌, refl, sym, ap, ◌∙◌}
-use Prim.Native.Nat.{ℕ, suc, ◌+◌, ◌-◌, ◌*◌, ◌^◌, ◌≤◌, ◌<◌}
-use native.Mathlib.Nat.{zero-add, pow-succ', mul_assoc}
+use Prim.Native.Nat.{ℕ, zero, suc, ◌+◌, ◌-◌, ◌*◌, ◌≤◌, ◌<◌}
+use native.Mathlib.Nat.{zero-add}
 use native.Mathlib.Numerals.{add-one}
 use native.Mathlib.Omega.{arith}
+use mir.Syntax.{w32}
 use lib.Dec.{eqb}
-use lib.ListN.{length, take, drop, set, length-append, length-set, drop_of_length-le}
-use lib.Seq.{sets, length-sets, set_comm, take-append-add}
+use lib.ListN.{length, take, drop, set, replicate, length-append, length-drop, length-set, length-replicate, drop_of_length-le}
+use lib.Seq.{sets, sets-eq, length-sets, length-take-le, set_comm, take-append-add, drop-drop, set-append_seam}
+use borrow.Rule.Slice.PartMut.{put_mid}
+use Rattle.std.specs.Int.{from_le_bytes}
 use Rattle.words.specs.Words.{word_of, over}
 use Rattle.words.proofs.Over.{sets-append, sets_over}
 use Rattle.commands.specs.Commands.{count}
 use Rattle.stream.specs.Command.{Command, Write}
-use Rattle.stream.specs.Read.{commands, writes, log_commands}
+use Rattle.stream.specs.Read.{commands, log_commands}
 use Rattle.stream.specs.Pack.{queue_of, parameters_of, ends_with_none, group_words, packed_words, count_if, or_none, IsRead}
 use Rattle.stream.specs.Unpack.{writes_for}
 use Rattle.stream.proofs.ReadLaws.{More, behind}
 use Rattle.stream.proofs.PackLaws.{length-queue, parameters-append}
 use Rattle.stream.proofs.UnpackLaws.{writes_for_bounds}
 use Rattle.packer.specs.declared.Places.{Places}
-use Rattle.packer.specs.Inside.{IsLog, rest_commands, values, byte_at, command_from, Begins, IsGroup, GroupFits}
-use Rattle.packer.specs.Inside.{PutGroup}
-use Rattle.packer.proofs.ValueLaws.{length_pairs}
+use Rattle.packer.specs.Inside.{writes_of, rest_commands, values, byte_at, command_from, Begins, IsGroup, GroupFits, PutGroup}
+use Rattle.packer.proofs.ValueLaws.{length-writes_of, part-writes, length-values}
 use Rattle.packer.proofs.CommandWalk.{read-command, read-begins}
 use Rattle.packer.proofs.GroupLaws.{length-group, Taken, none-taken, taken_more, group-taken, packed-one}
 use Rattle.packer.proofs.GroupLaws.{packed-four, Passed, none_passed, one_more, length_more, passed-more}
@@ -36,12 +38,19 @@ queue-append : (g h : List Command) → queue_of (g ++ h) ≡ queue_of g ++ queu
 queue-append [] h = refl
 queue-append (c ∷ g) h = ap (λ (l : List ℕ). c.byte ∷ l) (queue-append g h)
 
-word_more : (q : List ℕ) (c : ℕ) → word_of (q ++ c ∷ []) ≡ word_of q + 256 ^ length q * c
-word_more [] c = omega arith
-word_more (b ∷ q) c =
-    let p : 256 ^ suc (length q) * c ≡ 256 * (256 ^ length q * c) =
-    ap (λ (x : ℕ). x * c) (pow-succ' 256 (length q)) ∙ mul_assoc 256 (256 ^ length q) c in
-    omega (arith, p, word_more q c)
+-- bytes of a command word behind its commands' are 0
+word-rest : (q : List ℕ) (n : ℕ) → word_of (q ++ replicate n 0) ≡ word_of q
+word-rest [] zero = refl
+word-rest [] (suc n) = omega (arith, word-rest [] n)
+word-rest (b ∷ q) n = ap (λ (x : ℕ). b + 256 * x) (word-rest q n)
+
+word-bytes : (bs : List ℕ) → length bs ≡ 4 → from_le_bytes w32 bs ≡ word_of bs
+word-bytes [] e = absurd (omega arith)
+word-bytes (a ∷ []) e = absurd (omega arith)
+word-bytes (a ∷ b ∷ []) e = absurd (omega arith)
+word-bytes (a ∷ b ∷ c ∷ []) e = absurd (omega arith)
+word-bytes (a ∷ b ∷ c ∷ d ∷ []) e = omega arith
+word-bytes (a ∷ b ∷ c ∷ d ∷ f ∷ bs) e = absurd (omega arith)
 
 -- a store below a run of stores
 set_below : (l : List ℕ) (i j : ℕ) (ys : List ℕ) (v : ℕ) → i < j → set (sets l j ys) i v ≡ sets (set l i v) j ys
@@ -49,6 +58,22 @@ set_below l i j [] v h = refl
 set_below l i j (y ∷ ys) v h =
     let e : set (set l j y) i v ≡ set (set l i v) j y = set_comm l j i y v (λ q. omega arith) in
     set_below (set l j y) i (suc j) ys v (omega arith) ∙ ap (λ (k : List ℕ). sets k (suc j) ys) e
+
+-- the values of n writes from the k-th on, stored in a part of a list
+pub put_part : (l : List ℕ) (i : ℕ) (log : List (List ℕ)) (k n : ℕ) (vs : List ℕ)
+    → k + n ≤ length log → i + n ≤ length l → vs ≡ values (writes_of (take (k + n - k) (drop k log)))
+    → put_mid i (i + n - i) l vs ≡ sets l i (values (take n (drop k (writes_of log))))
+put_part l i log k n vs h room e =
+    let a : k + n - k ≡ n = omega arith in
+    let b : i + n - i ≡ n = omega arith in
+    let v : vs ≡ values (take n (drop k (writes_of log))) =
+    e ∙ ap values (rw a (part-writes log k n)) in
+    let z : length vs ≡ n =
+    ap length v
+    ∙ length-values (take n (drop k (writes_of log)))
+    ∙ length-take-le n (drop k (writes_of log))
+    (rw length-drop (omega (arith, length-writes_of log))) in
+    rw (b, ← v, drop-drop, sets-eq vs l i (omega (arith, z)), z) (sym (append_assoc (take i l) vs (drop (i + n) l)))
 
 -- ---- room
 
@@ -114,118 +139,125 @@ group-behind {ws} {i} {next} {cs} all g e = by g.full
               ∙ sym (rw n (nothing_behind cs));
         }
 
--- ---- the loop that writes a group: its commands cs are stored behind `to`, where their word will stand
+-- ---- the loop that writes a group: its commands cs are stored behind the place where their word will stand
 
-pub record PuttingGroup (log : List ℕ) (pairs i to : ℕ) (old : List ℕ) (next slot word end : ℕ) (none : Bool)
-    (new : List ℕ) : Type 0 where
-  pub fits : GroupFits log pairs i to old
+pub record PuttingGroup (ws : List Write) (from : Places) (old : List ℕ) (next slot : ℕ) (bytes : List ℕ) (end : ℕ)
+    (none : Bool) (new : List ℕ) : Type 0 where
+  pub fits : GroupFits ws from old
   pub cs : List Command
   pub size : ℕ
-  pub taken : Taken (writes log) i next slot size none cs
-  pub end_is : end ≡ to + 1 + size
-  pub word-is : word ≡ word_of (queue_of cs)
-  pub word_small : word < 256 ^ slot
+  pub taken : Taken ws from.next next slot size none cs
+  pub bytes_are : bytes ≡ queue_of cs ++ replicate (4 - slot) 0
+  pub end_is : end ≡ from.to + 1 + size
   pub same : length new ≡ length old
-  pub buffer : new ≡ sets old (to + 1) (parameters_of cs)
+  pub buffer : new ≡ sets old (from.to + 1) (parameters_of cs)
 
-pub put_group_start : {log : List ℕ} {pairs i to : ℕ} {old : List ℕ} → GroupFits log pairs i to old
-    → PuttingGroup log pairs i to old i 0 0 (to + 1) false old
-put_group_start {log} {pairs} {i} f = record {
+pub put_group_start : {ws : List Write} {from : Places} {old : List ℕ} → GroupFits ws from old
+    → PuttingGroup ws from old from.next 0 (replicate 4 0) (from.to + 1) false old
+put_group_start {ws} {from} f = record {
   fits = f;
   cs = [];
   size = 0;
-  taken = none-taken (writes log) i (omega (arith, f.start, length_pairs f.is_log));
+  taken = none-taken ws from.next f.start;
+  bytes_are = refl;
   end_is = omega arith;
-  word-is = refl;
-  word_small = omega arith;
   same = refl;
   buffer = refl;
 }
 
-module _ {log : List ℕ} {pairs i to : ℕ} {old : List ℕ} {next slot word end : ℕ} {none : Bool} {new : List ℕ}
-    (p : PuttingGroup log pairs i to old next slot word end none new) where
-  rest-is : More p.cs (or_none (rest_commands i (writes log))) (rest_commands next (writes log))
+module _ {ws : List Write} {from : Places} {old : List ℕ} {next slot : ℕ} {bytes : List ℕ} {end : ℕ} {none : Bool}
+    {new : List ℕ} (p : PuttingGroup ws from old next slot bytes end none new) where
+  rest-is : More p.cs (or_none (rest_commands from.next ws)) (rest_commands next ws)
   rest-is =
-      behind p.cs (or_none (rest_commands i (writes log))) (rest_commands next (writes log))
+      behind p.cs (or_none (rest_commands from.next ws)) (rest_commands next ws)
       (sym p.taken.read ∙ p.fits.is_read)
 
-  -- a command begins at the next write
-  pub next-command : next < pairs → byte_at (writes log) next ≡ 0 → ⊥
-  next-command h =
-      read-command (writes log) next rest-is.more (omega (arith, length_pairs p.fits.is_log)) rest-is.is
-
-  -- the next command, of n parameters
-  module _ (few : slot < 4) (h : next < pairs) (n : ℕ) (k : n ≡ count (byte_at (writes log) next)) where
-    b : Begins (writes log) next n
-    b =
-        rw k
-        (read-begins (writes log) next rest-is.more (omega (arith, length_pairs p.fits.is_log)) rest-is.is)
-
-    t : Taken (writes log) i (next + writes_for n) (slot + 1) (p.size + n) (eqb n 0)
-        (p.cs ++ command_from (writes log) next n ∷ [])
-    t = taken_more p.taken few n b
-
-    m : More (p.cs ++ command_from (writes log) next n ∷ []) (or_none (rest_commands i (writes log)))
-        (rest_commands (next + writes_for n) (writes log))
-    m =
-        behind (p.cs ++ command_from (writes log) next n ∷ []) (or_none (rest_commands i (writes log)))
-        (rest_commands (next + writes_for n) (writes log)) (sym t.read ∙ p.fits.is_read)
-
-    pub values-room : (2 * (next + n) ≤ length log) × (end + n ≤ length new)
-    values-room = (
-      omega (arith, writes_for_bounds n, b.within, length_pairs p.fits.is_log, p.fits.is_log.even),
+  pub length-bytes : length bytes ≡ 4
+  length-bytes =
       omega (
         arith,
-        p.fits.room,
-        p.same,
-        p.end_is,
-        t.counted,
-        ap (λ (l : List Command). length (packed_words l)) m.joined,
-        packed-room (p.cs ++ command_from (writes log) next n ∷ []) m.more (omega (arith, t.slots))
-            (omega (arith, t.slots, t.most)),
-      ),
-    )
+        ap length p.bytes_are,
+        length-append (queue_of p.cs) (replicate (4 - slot) 0),
+        length-replicate {A = ℕ} (4 - slot) 0,
+        length-queue p.cs,
+        p.taken.slots,
+        p.taken.most,
+      )
 
-    pub put_group_more : (new' : List ℕ) → new' ≡ sets new end (values (take n (drop next (writes log))))
-        → (word' : ℕ) → word' ≡ word + 256 ^ slot * byte_at (writes log) next → word' < 256 ^ (slot + 1)
-        → PuttingGroup log pairs i to old (next + writes_for n) (slot + 1) word' (end + n) (eqb n 0) new'
-    put_group_more new' e word' w s =
-        let c = command_from (writes log) next n in
-        let vs = values (take n (drop next (writes log))) in
-        record {
-          fits = p.fits;
-          cs = p.cs ++ c ∷ [];
-          size = p.size + n;
-          taken = t;
-          end_is = omega (arith, p.end_is);
-          word-is = w
-              ∙ rw (
-                queue-append p.cs (c ∷ []),
-                word_more (queue_of p.cs) (byte_at (writes log) next),
-                length-queue p.cs,
-                ← p.taken.slots,
-                ← p.word-is,
-              );
-          word_small = s;
-          same = ap length e ∙ length-sets new end vs ∙ p.same;
-          buffer = e
-              ∙ sym (rw (
-                parameters-append p.cs (c ∷ []),
-                append-nil vs,
-                sets-append old (to + 1) (parameters_of p.cs) vs,
-                ← p.taken.counted,
-                ← p.end_is,
-                ← p.buffer,
-              ));
-        }
+  module _ (h : next < length ws) where
+    -- a command begins at the next write
+    pub next-command : byte_at ws next ≡ 0 → ⊥
+    next-command = read-command ws next rest-is.more h rest-is.is
+
+    -- the next command, of n parameters
+    module _ (few : slot < 4) (n : ℕ) (k : n ≡ count (byte_at ws next)) where
+      b : Begins ws next n
+      b = rw k (read-begins ws next rest-is.more h rest-is.is)
+
+      t : Taken ws from.next (next + writes_for n) (slot + 1) (p.size + n) (eqb n 0)
+          (p.cs ++ command_from ws next n ∷ [])
+      t = taken_more p.taken few n b
+
+      m : More (p.cs ++ command_from ws next n ∷ []) (or_none (rest_commands from.next ws))
+          (rest_commands (next + writes_for n) ws)
+      m =
+          behind (p.cs ++ command_from ws next n ∷ []) (or_none (rest_commands from.next ws))
+          (rest_commands (next + writes_for n) ws) (sym t.read ∙ p.fits.is_read)
+
+      pub within : next + writes_for n ≤ length ws
+      within = b.within
+
+      pub values-room : (next + n ≤ length ws) × (end + n ≤ length new)
+      values-room = (
+        omega (arith, writes_for_bounds n, b.within),
+        omega (
+          arith,
+          p.fits.room,
+          p.same,
+          p.end_is,
+          t.counted,
+          ap (λ (l : List Command). length (packed_words l)) m.joined,
+          packed-room (p.cs ++ command_from ws next n ∷ []) m.more (omega (arith, t.slots))
+              (omega (arith, t.slots, t.most)),
+        ),
+      )
+
+      pub put_group_more : (new' : List ℕ) → new' ≡ sets new end (values (take n (drop next ws)))
+          → PuttingGroup ws from old (next + writes_for n) (slot + 1) (set bytes slot (byte_at ws next)) (end + n)
+          (eqb n 0) new'
+      put_group_more new' e =
+          let c = command_from ws next n in
+          let vs = values (take n (drop next ws)) in
+          let left : 4 - slot ≡ suc (4 - (slot + 1)) = omega arith in
+          record {
+            fits = p.fits;
+            cs = p.cs ++ c ∷ [];
+            size = p.size + n;
+            taken = t;
+            bytes_are = rw (p.bytes_are, left, queue-append p.cs (c ∷ []), p.taken.slots, ← length-queue p.cs)
+                (set-append_seam (queue_of p.cs) 0 (replicate (4 - (length (queue_of p.cs) + 1)) 0) (byte_at ws next)
+                ∙ sym (append_assoc (queue_of p.cs) (byte_at ws next ∷ [])
+                (replicate (4 - (length (queue_of p.cs) + 1)) 0)));
+            end_is = omega (arith, p.end_is);
+            same = ap length e ∙ length-sets new end vs ∙ p.same;
+            buffer = e
+                ∙ sym (rw (
+                  parameters-append p.cs (c ∷ []),
+                  append-nil vs,
+                  sets-append old (from.to + 1) (parameters_of p.cs) vs,
+                  ← p.taken.counted,
+                  ← p.end_is,
+                  ← p.buffer,
+                ));
+          }
 
   -- the group is full, or the log is at its end
-  module _ (w : (slot ≡ 4) ⊎ (pairs ≤ next)) where
-    g : IsGroup (writes log) i next p.cs
-    g = group-taken p.taken p.fits.is_log p.fits.start w
+  module _ (w : (slot ≡ 4) ⊎ (length ws ≤ next)) where
+    g : IsGroup ws from.next next p.cs
+    g = group-taken p.taken p.fits.start w
 
-    l : Behind (writes log) next p.cs (or_none (rest_commands i (writes log)))
-    l = group-behind (or_none (rest_commands i (writes log))) g p.fits.is_read
+    l : Behind ws next p.cs (or_none (rest_commands from.next ws))
+    l = group-behind (or_none (rest_commands from.next ws)) g p.fits.is_read
 
     size_is : length (group_words p.cs) ≡ 1 + p.size + count_if none 0
     size_is = length-group p.cs ∙ rw (← p.taken.counted, ← p.taken.last)
@@ -242,62 +274,71 @@ module _ {log : List ℕ} {pairs i to : ℕ} {old : List ℕ} {next slot word en
           length-append (group_words p.cs) (packed_words l.more),
         )
 
-    pub dummy-room : none ≡ true → end < length (set new to word)
-    dummy-room e = rw (length-set new to word) (omega (arith, end-room, ap (λ (b : Bool). count_if b 0) e))
+    -- the command word
+    module _ (word : ℕ) (is : word ≡ from_le_bytes w32 bytes) where
+      word-is : word ≡ word_of (queue_of p.cs)
+      word-is =
+          is ∙ word-bytes bytes length-bytes ∙ ap word_of p.bytes_are ∙ word-rest (queue_of p.cs) (4 - slot)
 
-    first : set new to word ≡ sets old to (word_of (queue_of p.cs) ∷ parameters_of p.cs)
-    first =
-        rw (p.buffer, p.word-is, add-one to)
-        (set_below old to (suc to) (parameters_of p.cs) (word_of (queue_of p.cs)) (omega arith))
+      first : set new from.to word ≡ sets old from.to (word_of (queue_of p.cs) ∷ parameters_of p.cs)
+      first =
+          rw (p.buffer, word-is, add-one from.to)
+          (set_below old from.to (suc from.to) (parameters_of p.cs) (word_of (queue_of p.cs)) (omega arith))
 
-    pub put_dummy : none ≡ true
-        → PutGroup (writes log) i to old (set (set new to word) end 0) (record { next = next; to = end + 1 })
-    unfolding group_words
-    put_dummy e =
-        let d : ends_with_none false p.cs ≡ true = sym p.taken.last ∙ e in
-        let k : count_if none 0 ≡ 1 = ap (λ (b : Bool). count_if b 0) e in
-        let ws = word_of (queue_of p.cs) ∷ parameters_of p.cs in
-        let q : to + length (word_of (queue_of p.cs) ∷ parameters_of p.cs) ≡ end =
-        omega (arith, p.end_is, p.taken.counted) in
-        record {
-          cs = p.cs;
-          group = g;
-          end = omega (arith, size_is, p.end_is);
-          small = omega (arith, size_is, p.taken.small, p.taken.most);
-          buffer = rw (first, d, ← q) (sym (sets-append old to ws (0 ∷ [])));
-        }
+      pub dummy-room : none ≡ true → end < length (set new from.to word)
+      dummy-room e =
+          rw (length-set new from.to word) (omega (arith, end-room, ap (λ (b : Bool). count_if b 0) e))
 
-    pub put_plain : none ≡ false
-        → PutGroup (writes log) i to old (set new to word) (record { next = next; to = end })
-    unfolding group_words
-    put_plain e =
-        let d : ends_with_none false p.cs ≡ false = sym p.taken.last ∙ e in
-        let k : count_if none 0 ≡ 0 = ap (λ (b : Bool). count_if b 0) e in
-        record {
-          cs = p.cs;
-          group = g;
-          end = omega (arith, size_is, p.end_is);
-          small = omega (arith, size_is, p.taken.small, p.taken.most);
-          buffer = first ∙ rw (d, append-nil (parameters_of p.cs));
-        }
+      pub put_dummy : none ≡ true
+          → PutGroup ws from old (set (set new from.to word) end 0) (record { next = next; to = end + 1 })
+      unfolding group_words
+      put_dummy e =
+          let d : ends_with_none false p.cs ≡ true = sym p.taken.last ∙ e in
+          let k : count_if none 0 ≡ 1 = ap (λ (b : Bool). count_if b 0) e in
+          let ws = word_of (queue_of p.cs) ∷ parameters_of p.cs in
+          let q : from.to + length (word_of (queue_of p.cs) ∷ parameters_of p.cs) ≡ end =
+          omega (arith, p.end_is, p.taken.counted) in
+          record {
+            cs = p.cs;
+            group = g;
+            end = omega (arith, size_is, p.end_is);
+            small = omega (arith, size_is, p.taken.small, p.taken.most);
+            buffer = rw (first, d, ← q) (sym (sets-append old from.to ws (0 ∷ [])));
+          }
+
+      pub put_plain : none ≡ false → PutGroup ws from old (set new from.to word) (record { next = next; to = end })
+      unfolding group_words
+      put_plain e =
+          let d : ends_with_none false p.cs ≡ false = sym p.taken.last ∙ e in
+          let k : count_if none 0 ≡ 0 = ap (λ (b : Bool). count_if b 0) e in
+          record {
+            cs = p.cs;
+            group = g;
+            end = omega (arith, size_is, p.end_is);
+            small = omega (arith, size_is, p.taken.small, p.taken.most);
+            buffer = first ∙ rw (d, append-nil (parameters_of p.cs));
+          }
 
 -- ---- the loop that writes a log
 
-pub record PuttingLog (log : List ℕ) (pairs : ℕ) (old : List ℕ) (i to : ℕ) (new : List ℕ) : Type 0 where
+pub record PuttingLog (ws : List Write) (old : List ℕ) (places : Places) (new : List ℕ) : Type 0 where
+  pub few : length ws ≤ 4096
   pub done : List Command
-  pub passed : Passed log pairs i done
-  pub is_read : IsRead (log_commands (writes log))
-  pub room : length (packed_words (or_none (log_commands (writes log)))) ≤ length old
-  pub to_is : to ≡ length (packed_words done)
+  pub passed : Passed ws places.next done
+  pub is_read : IsRead (log_commands ws)
+  pub room : length (packed_words (or_none (log_commands ws))) ≤ length old
+  pub to_is : places.to ≡ length (packed_words done)
   pub same : length new ≡ length old
   pub buffer : new ≡ sets old 0 (packed_words done)
 
-pub put_log_start : {log : List ℕ} {pairs : ℕ} (old : List ℕ) → IsLog log pairs → IsRead (log_commands (writes log))
-    → length (packed_words (or_none (log_commands (writes log)))) ≤ length old → PuttingLog log pairs old 0 0 old
+pub put_log_start : {ws : List Write} {old : List ℕ} → length ws ≤ 4096 → IsRead (log_commands ws)
+    → length (packed_words (or_none (log_commands ws))) ≤ length old
+    → PuttingLog ws old (record { next = 0; to = 0 }) old
 unfolding packed_words
-put_log_start old l g r = record {
+put_log_start {ws} f g r = record {
+  few = f;
   done = [];
-  passed = none_passed l;
+  passed = none_passed ws;
   is_read = g;
   room = r;
   to_is = refl;
@@ -305,16 +346,15 @@ put_log_start old l g r = record {
   buffer = refl;
 }
 
-module _ {log : List ℕ} {pairs : ℕ} {old : List ℕ} {i to : ℕ} {new : List ℕ}
-    (p : PuttingLog log pairs old i to new) where
-  left : More p.done (or_none (log_commands (writes log))) (rest_commands i (writes log))
+module _ {ws : List Write} {old : List ℕ} {places : Places} {new : List ℕ} (p : PuttingLog ws old places new) where
+  left : More p.done (or_none (log_commands ws)) (rest_commands places.next ws)
   left =
-      behind p.done (or_none (log_commands (writes log))) (rest_commands i (writes log))
-      (sym p.passed.read ∙ sym (from_first (writes log)) ∙ p.is_read)
+      behind p.done (or_none (log_commands ws)) (rest_commands places.next ws)
+      (sym p.passed.read ∙ sym (from_first ws) ∙ p.is_read)
 
-  pub group-fits : i < pairs → GroupFits log pairs i to new
+  pub group-fits : places.next < length ws → GroupFits ws places new
   group-fits h = record {
-    is_log = p.passed.is_log;
+    few = p.few;
     start = h;
     is_read = rw left.is;
     room = rw left.is (omega (
@@ -328,30 +368,28 @@ module _ {log : List ℕ} {pairs : ℕ} {old : List ℕ} {i to : ℕ} {new : Lis
     ));
   }
 
-  module _ (h : i < pairs) (new' : List ℕ) (r : Places) (q : PutGroup (writes log) i to new new' r) where
-    pub put_log_next : (i < r.next) × (r.next ≤ pairs)
-    put_log_next = (q.group.on, omega (arith, q.group.within, length_pairs p.passed.is_log))
+  pub put_log_more : places.next < length ws → {new' : List ℕ} {r : Places} → PutGroup ws places new new' r
+      → PuttingLog ws old r new'
+  put_log_more h q = record {
+    few = p.few;
+    done = p.done ++ q.cs;
+    passed = passed-more p.passed h q.group q.small;
+    is_read = p.is_read;
+    room = p.room;
+    to_is = omega (arith, q.end, p.to_is, length_more p.passed h q.group);
+    same = ap length q.buffer ∙ length-sets new places.to (group_words q.cs) ∙ p.same;
+    buffer = q.buffer
+        ∙ rw (
+          one_more p.passed h q.group,
+          sets-append old 0 (packed_words p.done) (group_words q.cs),
+          zero-add (length (packed_words p.done)),
+          ← p.to_is,
+          ← p.buffer,
+        );
+  }
 
-    pub put_log_more : PuttingLog log pairs old r.next r.to new'
-    put_log_more = record {
-      done = p.done ++ q.cs;
-      passed = passed-more p.passed h q.group q.small;
-      is_read = p.is_read;
-      room = p.room;
-      to_is = omega (arith, q.end, p.to_is, length_more p.passed h q.group);
-      same = ap length q.buffer ∙ length-sets new to (group_words q.cs) ∙ p.same;
-      buffer = q.buffer
-          ∙ rw (
-            one_more p.passed h q.group,
-            sets-append old 0 (packed_words p.done) (group_words q.cs),
-            zero-add (length (packed_words p.done)),
-            ← p.to_is,
-            ← p.buffer,
-          );
-    }
-
-  pub put_log_end : pairs ≤ i → new ≡ over (packed_words (or_none (log_commands (writes log)))) old
+  pub put_log_end : length ws ≤ places.next → new ≡ over (packed_words (or_none (log_commands ws))) old
   put_log_end h =
-      let e : log_commands (writes log) ≡ commands p.done = from_first (writes log) ∙ all-passed p.passed h in
-      let k : p.done ≡ or_none (log_commands (writes log)) = sym (rw e) in
+      let e : log_commands ws ≡ commands p.done = from_first ws ∙ all-passed p.passed h in
+      let k : p.done ≡ or_none (log_commands ws) = sym (rw e) in
       p.buffer ∙ rw (← k) (sets_over old (packed_words p.done) (rw k p.room))

@@ -2,27 +2,29 @@
 use mathlib.Core.Bool.{Bool, true, false, cond}
 use mathlib.Core.List.{List, [], ◌∷◌}
 use mathlib.Core.Path.{◌≡◌, refl, sym, ap, ◌∙◌}
-use Prim.Native.Nat.{ℕ, ◌+◌, ◌*◌, ◌/◌, ◌%◌, ◌^◌, ◌≤◌, ◌<◌}
-use native.Mathlib.Nat.{zero-add}
+use mir.Syntax.{w32}
+use Prim.Native.Nat.{ℕ, ◌+◌, ◌*◌, ◌≤◌}
 use native.Mathlib.Omega.{arith}
 use lib.Dec.{eqb}
 use lib.ListN.{length, take, drop, length-drop}
 use lib.Seq.{length-take-le}
 use Rattle.commands.specs.Commands.{known, count, port, command_bytes, hole}
 use Rattle.commands.proofs.Table.{count_small}
-use Rattle.commands.proofs.Commands.{counted-unknown}
+use Rattle.std.specs.Prelude.{Some, None}
+use Rattle.std.specs.Int.{to_le_bytes}
 use Rattle.stream.specs.Pending.{commands_of}
 use Rattle.stream.specs.Command.{takes_none, command}
 use Rattle.stream.specs.Pack.{count_if}
 use Rattle.stream.specs.Unpack.{writes_for, commands_log}
 use Rattle.stream.proofs.CommandLaws.{takes_some_count, none-by-count}
-use Rattle.stream.proofs.PendingLaws.{unknown-zero}
 use Rattle.stream.proofs.StepLaws.{commands-few}
-use Rattle.stream.proofs.QueueLaws.{commands-next, hole-next, commands-none}
 use Rattle.stream.proofs.PackLaws.{one-most}
 use Rattle.stream.proofs.UnpackLaws.{length-commands_log, command_log, length_writes_log}
 use Rattle.stream.proofs.UnpackLaws.{writes_for_some, writes_for_bounds}
-use Rattle.unpacker.specs.Inside.{words_behind, writes_of, Extends, commands_from}
+use Rattle.unpacker.specs.declared.Extent.{Extent}
+use Rattle.unpacker.specs.Inside.{words_behind, writes_of, extent_of, commands_from}
+use Rattle.unpacker.proofs.ByteLaws.{commands_in, holed, any_known, word-commands, word-hole, commands-first, hole-behind}
+use Rattle.unpacker.proofs.ByteLaws.{known-first, hole-of-unknown, any-of-unknown, none_known}
 
 -- ---- the numbers of port writes
 
@@ -87,48 +89,94 @@ writes-by-words w = few (commands_of w) (commands-few w)
     few [] h = omega arith
     few (c ∷ q) h = omega (arith, writes-some false c q)
 
--- ---- the commands of a command word one by one, with `rest` left of it
+-- ---- the commands of a command word byte by byte
 
-pub record Extending (w rest words writes : ℕ) (none : Bool) : Type 0 where
-  pub small : rest < 2 ^ 32
-  pub same-hole : hole (command_bytes rest) ≡ hole (command_bytes w)
-  pub words-is : words + words_behind none (commands_of rest) ≡ words_behind false (commands_of w)
-  pub writes-is : writes + writes_of (commands_of rest) ≡ writes_of (commands_of w)
+-- the bytes `rest` are to come; the commands before them take so much, the last of them no parameter where `dummy`
+-- holds; where `ended` holds, a byte before them is no command
+pub record Extending (w : ℕ) (rest : List ℕ) (words writes : ℕ) (dummy ended : Bool) : Type 0 where
+  pub same-hole : cond ended (any_known rest) (holed rest) ≡ hole (command_bytes w)
+  pub words-is : hole (command_bytes w) ≡ false
+      → words + words_behind dummy (commands_in rest) ≡ words_behind false (commands_of w)
+  pub writes-is : hole (command_bytes w) ≡ false → writes + writes_of (commands_in rest) ≡ writes_of (commands_of w)
 
-pub extent_start : (w : ℕ) → w < 2 ^ 32 → Extending w w 0 0 false
-extent_start w h = record {
-  small = h;
-  same-hole = refl;
-  words-is = zero-add (words_behind false (commands_of w));
-  writes-is = zero-add (writes_of (commands_of w));
+pub extent_start : (w : ℕ) → Extending w (to_le_bytes w32 w) 0 0 false false
+extent_start w = record {
+  same-hole = word-hole w;
+  words-is = λ h. omega (arith, ap (words_behind false) (word-commands w));
+  writes-is = λ h. omega (arith, ap writes_of (word-commands w));
 }
 
-module _ {w rest words writes : ℕ} {none : Bool} (s : Extending w rest words writes none) where
-  pub extent_bounds : (words ≤ 129) × (writes ≤ 132)
-  extent_bounds = (omega (arith, s.words-is, extent_small w), omega (arith, s.writes-is, extent_small w))
+module _ {w b : ℕ} {rest : List ℕ} {words writes : ℕ} {dummy ended : Bool}
+    (s : Extending w (b ∷ rest) words writes dummy ended) where
+  -- a byte that is no command
+  pub extent_ended : known b ≡ false → Extending w rest words writes dummy true
+  extent_ended k = record {
+    same-hole = same;
+    words-is = λ h. omega (arith, s.words-is h, ap (words_behind dummy) (none h));
+    writes-is = λ h. omega (arith, s.writes-is h, ap writes_of (none h));
+  }
+    where
+      same : any_known rest ≡ hole (command_bytes w)
+      same = sym (by ended) ∙ s.same-hole
+        where
+          by : (t : Bool) → cond t (any_known (b ∷ rest)) (holed (b ∷ rest)) ≡ any_known rest
+          by true = any-of-unknown b rest k
+          by false = hole-of-unknown b rest k
 
-  pub extent_more : known (rest % 256) ≡ true → (n m : ℕ) → n ≡ count (rest % 256) → m ≡ writes_for n
-      → Extending w (rest / 256) (words + n) (writes + m) (eqb n 0)
-  extent_more k n m e f =
-      let q = commands-next rest s.small k in
-      let b : eqb n 0 ≡ takes_none (rest % 256) = none-by-count (rest % 256) n e in
+      none : hole (command_bytes w) ≡ false → commands_in (b ∷ rest) ≡ commands_in rest
+      none h =
+          none_known (b ∷ rest) (any-of-unknown b rest k ∙ same ∙ h) ∙ sym (none_known rest (same ∙ h))
+
+  -- a command behind such a byte
+  pub extent_hole : known b ≡ true → ended ≡ true → hole (command_bytes w) ≡ true
+  extent_hole k e = sym (rw e at s.same-hole) ∙ known-first b rest k
+
+  -- a command
+  pub extent_more : known b ≡ true → ended ≡ false → (n m : ℕ) → n ≡ count b → m ≡ writes_for n
+      → Extending w rest (words + n) (writes + m) (eqb n 0) ended
+  extent_more k e n m f g =
+      let q = commands-first b rest k in
+      let t : eqb n 0 ≡ takes_none b = none-by-count b n f in
       record {
-        small = omega (arith, s.small);
-        same-hole = sym (hole-next rest s.small k) ∙ s.same-hole;
-        words-is = rw b (omega (arith, e, s.words-is, ap (words_behind none) q));
-        writes-is = omega (arith, f, ap writes_for e, s.writes-is, ap writes_of q);
+        same-hole = rw e (sym (hole-behind b rest k) ∙ rw e at s.same-hole);
+        words-is = λ h. rw t (omega (arith, f, s.words-is h, ap (words_behind dummy) q));
+        writes-is = λ h. omega (arith, g, ap writes_for f, s.writes-is h, ap writes_of q);
       }
 
-  pub extent_end : known (rest % 256) ≡ false → (n : ℕ) → n ≡ count_if none 0
-      → Extends w (record { words = words + n; writes = writes; rest = rest })
-  extent_end k n e = record {
-    same-hole = s.same-hole;
-    words = λ o. omega (arith, s.words-is, ap (words_behind none) (commands-none rest k (s.same-hole ∙ o)));
-    writes = λ o. omega (arith, s.writes-is, ap writes_of (commands-none rest k (s.same-hole ∙ o)));
-  }
+-- at the last
+pub extent_end : {w words writes : ℕ} {dummy ended : Bool} → Extending w [] words writes dummy ended → (n : ℕ)
+    → n ≡ count_if dummy 0 → Some (record { words = words + n; writes = writes }) ≡ extent_of w
+unfolding hole
+extent_end {w} {words} {writes} {dummy} {ended} s n e =
+    let h : hole (command_bytes w) ≡ false = sym s.same-hole ∙ by ended in
+    let a : words + n ≡ words_behind false (commands_of w) = omega (arith, e, s.words-is h) in
+    let b : writes ≡ writes_of (commands_of w) = omega (arith, s.writes-is h) in
+    rw (h, a, b)
+  where
+    by : (t : Bool) → cond t (any_known []) (holed []) ≡ false
+    by true = refl
+    by false = refl
 
--- ---- a word of 0
+-- ---- what the answer says
 
-pub zero_no_hole : hole (command_bytes 0) ≡ false
-unfolding command_bytes hole
-zero_no_hole = rw (counted-unknown 0 unknown-zero)
+pub record Extends (w : ℕ) (r : Extent) : Type 0 where
+  pub no_hole : hole (command_bytes w) ≡ false
+  pub words : r.words ≡ words_behind false (commands_of w)
+  pub writes : r.writes ≡ writes_of (commands_of w)
+
+pub extends : (w : ℕ) (r : Extent) → Some r ≡ extent_of w → Extends w r
+extends w r e = by (hole (command_bytes w)) refl
+  where
+    by : (t : Bool) → hole (command_bytes w) ≡ t → Extends w r
+    by true h = let z = rw h at e in absurd (cc)
+    by false h =
+        let z = rw h at e in
+        let q : r ≡ record { words = words_behind false (commands_of w); writes = writes_of (commands_of w) } = cc in
+        record { no_hole = h; words = ap (λ (x : Extent). x.words) q; writes = ap (λ (x : Extent). x.writes) q }
+
+pub has-hole : (w : ℕ) → None ≡ extent_of w → hole (command_bytes w) ≡ true
+has-hole w e = by (hole (command_bytes w)) refl
+  where
+    by : (t : Bool) → hole (command_bytes w) ≡ t → t ≡ true
+    by true h = refl
+    by false h = let z = rw h at e in absurd (cc)

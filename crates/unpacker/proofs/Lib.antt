@@ -1,4 +1,5 @@
 pub mod WordLaws
+pub mod ByteLaws
 pub mod ExtentLaws
 pub mod MeasureLaws
 pub mod PutLaws

@@ -15,9 +15,9 @@ use Rattle.stream.proofs.ReadLaws.{prepend-none, prepend-append}
 use Rattle.stream.proofs.UnpackLaws.{length-commands_log}
 use Rattle.stream.specs.Input.{most_words, longest_log}
 use Rattle.unpacker.specs.declared.Extent.{Extent}
-use Rattle.unpacker.specs.Inside.{words_behind, Extends, word_commands, behind_word}
+use Rattle.unpacker.specs.Inside.{words_behind, word_commands, behind_word}
 use Rattle.unpacker.proofs.WordLaws.{list_ended, at-hole, at-short, at-complete}
-use Rattle.unpacker.proofs.ExtentLaws.{length-commands, extent_small, writes-by-words}
+use Rattle.unpacker.proofs.ExtentLaws.{length-commands, extent_small, writes-by-words, Extends}
 
 -- the words from `place` up to i were measured: they are commands of `total` numbers
 pub record Measuring (l : List ℕ) (place i total : ℕ) : Type 0 where
@@ -54,38 +54,37 @@ module _ {l : List ℕ} {place i total : ℕ} (m : Measuring l place i total) wh
         → answer_of (refusal 3 i) ≡ measured commands_log (list_commands place l)
     measure_hole e = stopped-at 3 i (at-hole l i h e)
 
-    module _ (e : hole (command_bytes (get_or l i 0)) ≡ false) (r : Extent) (x : Extends (get_or l i 0) r) where
+    -- the word has no hole, and its commands take the words and port writes of r
+    module _ (r : Extent) (x : Extends (get_or l i 0) r) where
       -- where the next command word stands
       next_place : i + 1 + r.words ≡ behind_word l i
       unfolding behind_word
-      next_place = omega (arith, x.words e)
+      next_place = omega (arith, x.words)
 
       pub measure_short : length l < i + 1 + r.words
           → answer_of (refusal 8 i) ≡ measured commands_log (list_commands place l)
-      measure_short k = stopped-at 8 i (at-short l i h e (omega (arith, next_place)))
+      measure_short k = stopped-at 8 i (at-short l i h x.no_hole (omega (arith, next_place)))
 
       pub word_small : (r.words ≤ 129) × (r.writes ≤ 132)
-      word_small =
-          let b = extent_small (get_or l i 0) in
-          (omega (arith, x.words e, b.0), omega (arith, x.writes e, b.1))
+      word_small = let b = extent_small (get_or l i 0) in (omega (arith, x.words, b.0), omega (arith, x.writes, b.1))
 
       length-word : i + 1 + r.words ≤ length l → length (commands_log (word_commands l i)) ≡ 2 * r.writes
       unfolding word_commands
       length-word k =
           let b : words_behind false (commands_of (get_or l i 0)) ≤ length (drop (i + 1) l) =
-          omega (arith, x.words e, length-drop (i + 1) l) in
-          omega (arith, x.writes e, length-commands false (commands_of (get_or l i 0)) (drop (i + 1) l) b)
+          omega (arith, x.words, length-drop (i + 1) l) in
+          omega (arith, x.writes, length-commands false (commands_of (get_or l i 0)) (drop (i + 1) l) b)
 
       pub measure_more : i + 1 + r.words ≤ length l → Measuring l place (i + 1 + r.words) (total + 2 * r.writes)
       measure_more k =
           let c : List Command = word_commands l i in
           let y : list_commands i l ≡ prepend c (list_commands (i + 1 + r.words) l) =
-          rw next_place (at-complete l i h e (omega (arith, next_place))) in
+          rw next_place (at-complete l i h x.no_hole (omega (arith, next_place))) in
           record {
             short = m.short;
             done = m.done ++ c;
             read = m.read ∙ ap (prepend m.done) y
                 ∙ prepend-append m.done (word_commands l i) (list_commands (i + 1 + r.words) l);
             total_is = omega (arith, m.total_is, length-commands_log m.done (word_commands l i), length-word k);
-            small = omega (arith, m.small, x.words e, x.writes e, writes-by-words (get_or l i 0));
+            small = omega (arith, m.small, x.words, x.writes, writes-by-words (get_or l i 0));
           }

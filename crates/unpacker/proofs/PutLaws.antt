@@ -6,11 +6,13 @@ use Prim.Native.Nat.{ℕ, ◌+◌, ◌*◌, ◌/◌, ◌%◌, ◌^◌, ◌≤◌
 use native.Mathlib.Numerals.{add-one}
 use native.Mathlib.Omega.{arith}
 use lib.Dec.{eqb}
-use lib.ListN.{length, get_or, take, drop, set, length-set, length-drop}
-use lib.Seq.{sets, length-sets, length-take-le, drop-drop, take-suc, get_or-drop}
+use lib.ListN.{length, get_or, take, drop, set, length-drop}
+use lib.Seq.{sets, length-sets, length-take-le, drop-drop}
+use Rattle.std.specs.Prelude.{Some, None}
 use Rattle.words.specs.Words.{over}
-use Rattle.words.proofs.Over.{sets-append, length_over, over_none, over-more}
-use Rattle.commands.specs.Commands.{known, count, port, command_bytes, hole}
+use Rattle.words.proofs.Over.{sets-append, take_next, length_over, over_none, over-more}
+use Rattle.commands.proofs.Table.{known-range}
+use Rattle.commands.specs.Commands.{lookup, known, count, port, command_bytes, hole}
 use Rattle.stream.specs.Pending.{commands_of}
 use Rattle.stream.specs.Command.{takes_none, Command, command}
 use Rattle.stream.specs.Read.{commands, prepend, list_commands}
@@ -23,49 +25,37 @@ use Rattle.stream.proofs.UnpackLaws.{writes_to_more, length_writes_log, commands
 use Rattle.stream.proofs.UnpackLaws.{command_log}
 use Rattle.unpacker.specs.declared.Places.{Places}
 use Rattle.unpacker.specs.Inside.{words_behind, commands_from, word_commands, behind_word}
-use Rattle.unpacker.specs.Inside.{log_from, WordFits, PutWord}
+use Rattle.unpacker.specs.Inside.{values_of, log_from, WordFits, PutWord}
 use Rattle.unpacker.proofs.WordLaws.{list_ended, GoodWord, good_word}
+use Rattle.unpacker.proofs.ByteLaws.{takes, no_command}
 use Rattle.unpacker.proofs.ExtentLaws.{length-command}
 
--- ---- a command's parameters: j of n are written
+-- ---- writes of values to one address: one more, behind the first j
 
-pub record Putting (l : List ℕ) (i n to a : ℕ) (old new : List ℕ) (j : ℕ) : Type 0 where
-  pub within : i + n ≤ length l
-  pub room : to + 2 * n ≤ length old
-  pub most : j ≤ n
-  pub same : length new ≡ length old
-  pub buffer : new ≡ sets old to (log_of (writes_to a (take j (drop i l))))
-
-pub put_more : {l : List ℕ} {i n to a : ℕ} {old new : List ℕ} {j : ℕ} → Putting l i n to a old new j → j < n
-    → Putting l i n to a old (set (set new (to + 2 * j) a) (to + 2 * j + 1) (get_or l (i + j) 0)) (j + 1)
-put_more {l} {i} {n} {to} {a} {old} {new} {j} p h = record {
-  within = p.within;
-  room = p.room;
-  most = omega arith;
-  same = length-set (set new (to + 2 * j) a) (to + 2 * j + 1) v ∙ length-set new (to + 2 * j) a ∙ p.same;
-  buffer = sym (ap (λ (x : List ℕ). sets old to (log_of (writes_to a x))) more
-      ∙ ap (sets old to) (writes_to_more a (take j (drop i l)) v)
-      ∙ sets-append old to (log_of (writes_to a (take j (drop i l)))) (a ∷ v ∷ [])
-      ∙ rw (written, ← p.buffer, add-one (to + 2 * j)));
-}
+pub put_more : (values : List ℕ) (a to : ℕ) (old new : List ℕ) (j : ℕ) → j < length values
+    → new ≡ sets old to (log_of (writes_to a (take j values)))
+    → set (set new (to + 2 * j) a) (to + 2 * j + 1) (get_or values j 0)
+    ≡ sets old to (log_of (writes_to a (take (j + 1) values)))
+put_more values a to old new j h e =
+    sym (ap (λ (x : List ℕ). sets old to (log_of (writes_to a x))) more
+    ∙ ap (sets old to) (writes_to_more a (take j values) v)
+    ∙ sets-append old to (log_of (writes_to a (take j values))) (a ∷ v ∷ [])
+    ∙ rw (written, ← e, add-one (to + 2 * j)))
   where
     v : ℕ
-    v = get_or l (i + j) 0
+    v = get_or values j 0
 
-    long : j < length (drop i l)
-    long = omega (arith, length-drop i l, p.within)
+    more : take (j + 1) values ≡ take j values ++ v ∷ []
+    more = take_next values j 0 h
 
-    more : take (j + 1) (drop i l) ≡ take j (drop i l) ++ get_or l (i + j) 0 ∷ []
-    more = rw (add-one j) (take-suc (drop i l) j 0 long ∙ rw (get_or-drop i l j 0))
-
-    written : length (log_of (writes_to a (take j (drop i l)))) ≡ 2 * j
+    written : length (log_of (writes_to a (take j values))) ≡ 2 * j
     written =
-        length_writes_log a (take j (drop i l))
-        ∙ ap (λ (x : ℕ). 2 * x) (length-take-le j (drop i l) (omega (arith, long)))
+        length_writes_log a (take j values)
+        ∙ ap (λ (x : ℕ). 2 * x) (length-take-le j values (omega (arith, h)))
 
 -- ---- a command word's commands one by one, with `queue` left of it
 
-pub record PuttingWord (l : List ℕ) (i to : ℕ) (old : List ℕ) (queue next end : ℕ) (none : Bool) (new : List ℕ)
+pub record PuttingWord (l : List ℕ) (i to : ℕ) (old : List ℕ) (queue next end : ℕ) (dummy : Bool) (new : List ℕ)
     : Type 0 where
   pub small : queue < 2 ^ 32
   pub no_hole : hole (command_bytes queue) ≡ false
@@ -73,7 +63,7 @@ pub record PuttingWord (l : List ℕ) (i to : ℕ) (old : List ℕ) (queue next 
   pub room : to + length (commands_log (word_commands l i)) ≤ length old
   pub done : List Command
   pub left : word_commands l i ≡ done ++ commands_from (commands_of queue) (drop next l)
-  pub next-is : next + words_behind none (commands_of queue) ≡ behind_word l i
+  pub next-is : next + words_behind dummy (commands_of queue) ≡ behind_word l i
   pub end_is : end ≡ to + length (commands_log done)
   pub same : length new ≡ length old
   pub buffer : new ≡ sets old to (commands_log done)
@@ -101,11 +91,17 @@ first l next queue = command (queue % 256) (take (count (queue % 256)) (drop nex
 abbrev later : List ℕ → ℕ → ℕ → List Command
 later l next queue = commands_from (commands_of (queue / 256)) (drop (next + count (queue % 256)) l)
 
-module _ {l : List ℕ} {i to : ℕ} {old : List ℕ} {queue next end : ℕ} {none : Bool} {new : List ℕ}
-    (p : PuttingWord l i to old queue next end none new) where
-  module _ (k : known (queue % 256) ≡ true) (n : ℕ) (e : n ≡ count (queue % 256)) where
-    b : eqb n 0 ≡ takes_none (queue % 256)
-    b = none-by-count (queue % 256) n e
+module _ {l : List ℕ} {i to : ℕ} {old : List ℕ} {queue next end : ℕ} {dummy : Bool} {new : List ℕ}
+    (p : PuttingWord l i to old queue next end dummy new) where
+  module _ (n : ℕ) (found : Some n ≡ lookup (queue % 256)) where
+    k : known (queue % 256) ≡ true
+    k = (takes (queue % 256) n found).0
+
+    e : n ≡ count (queue % 256)
+    e = (takes (queue % 256) n found).1
+
+    t : eqb n 0 ≡ takes_none (queue % 256)
+    t = none-by-count (queue % 256) n e
 
     q : commands_of queue ≡ queue % 256 ∷ commands_of (queue / 256)
     q = commands-next queue p.small k
@@ -113,29 +109,51 @@ module _ {l : List ℕ} {i to : ℕ} {old : List ℕ} {queue next end : ℕ} {no
     left-more : word_commands l i ≡ p.done ++ first l next queue ∷ later l next queue
     left-more = p.left ∙ rw (q, drop-drop (count (queue % 256)) next l)
 
+    pub queue-falls : queue / 256 < queue
+    queue-falls = omega (arith, known-range (queue % 256) k)
+
     pub enough : next + n ≤ length l
-    enough = omega (arith, e, p.next-is, p.all_there, ap (words_behind none) q)
+    enough = omega (arith, e, p.next-is, p.all_there, ap (words_behind dummy) q)
+
+    -- its parameters, and what is written to its port
+    abbrev given : List ℕ
+    given = take n (drop next l)
+
+    length-given : length given ≡ n
+    length-given = length-take-le n (drop next l) (omega (arith, enough, length-drop next l))
+
+    values-given : values_of given ≡ cond (takes_none (queue % 256)) (0 ∷ []) given
+    values-given = rw (length-given, t)
+
+    length-values : length (values_of given) ≡ writes_for n
+    unfolding writes_for
+    length-values = rw length-given (by (eqb n 0))
+      where
+        by : (t : Bool) → length (cond t (0 ∷ []) given) ≡ cond t 1 n
+        by true = refl
+        by false = length-given
 
     length-one : length (commands_log (first l next queue ∷ [])) ≡ 2 * writes_for n
     length-one =
         rw e (length-command (queue % 256) (take (count (queue % 256)) (drop next l))
         (length-take-le (count (queue % 256)) (drop next l) (omega (arith, e, enough, length-drop next l))))
 
-    pub command-room : end + 2 * writes_for n ≤ length new
+    pub command-room : end + 2 * length (values_of given) ≤ length new
     command-room =
         omega (
           arith,
           p.end_is,
           p.room,
           p.same,
+          length-values,
           ap (λ (x : List Command). length (commands_log x)) left-more,
           length-one,
           length-commands_log p.done (first l next queue ∷ later l next queue),
           length-commands_log (first l next queue ∷ []) (later l next queue),
         )
 
-    pub put_word_more : (end' : ℕ) (new' : List ℕ) → end' ≡ end + 2 * writes_for n
-        → new' ≡ sets new end (log_of (writes_to (port (queue % 256)) (cond (eqb n 0) (0 ∷ []) (take n (drop next l)))))
+    pub put_word_more : (end' : ℕ) (new' : List ℕ) → end' ≡ end + 2 * length (values_of given)
+        → new' ≡ sets new end (log_of (writes_to (port (queue % 256)) (values_of given)))
         → PuttingWord l i to old (queue / 256) (next + n) end' (eqb n 0) new'
     put_word_more end' new' f g = record {
       small = omega (arith, p.small);
@@ -144,27 +162,23 @@ module _ {l : List ℕ} {i to : ℕ} {old : List ℕ} {queue next end : ℕ} {no
       room = p.room;
       done = p.done ++ first l next queue ∷ [];
       left = left-more ∙ rw e (sym (append_assoc p.done (first l next queue ∷ []) (later l next queue)));
-      next-is = rw b (omega (arith, e, p.next-is, ap (words_behind none) q));
-      end_is = omega (arith, f, p.end_is, length-one, length-commands_log p.done (first l next queue ∷ []));
-      same = ap length g ∙ length-sets new end
-          (log_of (writes_to (port (queue % 256)) (cond (eqb n 0) (0 ∷ []) (take n (drop next l))))) ∙ p.same;
+      next-is = rw t (omega (arith, e, p.next-is, ap (words_behind dummy) q));
+      end_is = omega (arith, f, length-values, p.end_is, length-one, length-commands_log p.done (first l next queue ∷ []));
+      same = ap length g ∙ length-sets new end (log_of (writes_to (port (queue % 256)) (values_of given))) ∙ p.same;
       buffer = g ∙ sym (ap (sets old to) (commands_log_append p.done (first l next queue ∷ []))
           ∙ sets-append old to (commands_log p.done) (commands_log (first l next queue ∷ []))
-          ∙ rw (← p.end_is, ← p.buffer, command_log (queue % 256) (first l next queue).parameters, ← e, ← b));
+          ∙ rw (← p.end_is, ← p.buffer, command_log (queue % 256) (first l next queue).parameters, ← e, ← values-given));
     }
 
-  module _ (k : known (queue % 256) ≡ false) where
+  module _ (ended : None ≡ lookup (queue % 256)) where
     none_left : commands_of queue ≡ []
-    none_left = commands-none queue k p.no_hole
+    none_left = commands-none queue (no_command (queue % 256) ended) p.no_hole
 
-    pub word_end : (n : ℕ) → n ≡ count_if none 0 → next + n ≤ length l
-    word_end n e = omega (arith, e, p.next-is, p.all_there, ap (words_behind none) none_left)
-
-    pub put_word_end : (n : ℕ) → n ≡ count_if none 0 → PutWord l i to old new (record { next = next + n; to = end })
+    pub put_word_end : (n : ℕ) → n ≡ count_if dummy 0 → PutWord l i to old new (record { next = next + n; to = end })
     put_word_end n e =
         let d : word_commands l i ≡ p.done = p.left ∙ rw none_left (append-nil p.done) in
         record {
-          next = omega (arith, e, p.next-is, ap (words_behind none) none_left);
+          next = omega (arith, e, p.next-is, ap (words_behind dummy) none_left);
           end = p.end_is ∙ rw d;
           buffer = p.buffer ∙ rw d;
         }

@@ -1,6 +1,7 @@
 -- What the functions inside the unpacker require and promise, of one command word and the words behind it: nothing here
 -- is cited by a contract outside.
-use Rattle.std.specs.Prelude.{Bool, false, List, [], ◌∷◌, ◌≡◌, ℕ, ◌+◌, ◌≤◌, ◌<◌, length, get_or, take, drop}
+use Rattle.std.specs.Prelude.{Bool, false, cond, List, [], ◌∷◌, ◌≡◌, ℕ, ◌+◌, ◌≤◌, ◌<◌, eqb, length, get_or, take, drop}
+use Rattle.std.specs.Prelude.{Option, Some, None}
 use Rattle.std.proofs.lemmas.List.Edits.{sets}
 use Rattle.commands.specs.Commands.{count, command_bytes, hole}
 use Rattle.stream.specs.Pending.{commands_of}
@@ -21,12 +22,15 @@ abbrev pub writes_of : List ℕ → ℕ
 writes_of [] = 0
 writes_of (c ∷ q) = writes_for (count c) + writes_of q
 
--- the extent of word w: it has a hole exactly if what is left of it has one, and where it has none this is what its
--- commands take
-pub record Extends (w : ℕ) (r : Extent) : Type 0 where
-  pub same-hole : hole (command_bytes r.rest) ≡ hole (command_bytes w)
-  pub words : hole (command_bytes w) ≡ false → r.words ≡ words_behind false (commands_of w)
-  pub writes : hole (command_bytes w) ≡ false → r.writes ≡ writes_of (commands_of w)
+-- the extent of a word's commands, none where it has a hole
+abbrev pub extent_of : ℕ → Option Extent
+extent_of w =
+    let q : List ℕ = commands_of w in
+    cond (hole (command_bytes w)) None (Some (record { words = words_behind false q; writes = writes_of q }))
+
+-- what is written to the port of a command with these parameters
+abbrev pub values_of : List ℕ → List ℕ
+values_of ps = cond (eqb (length ps) 0) (0 ∷ []) ps
 
 -- the commands, with their parameters from the words behind
 abbrev pub commands_from : List ℕ → List ℕ → List Command

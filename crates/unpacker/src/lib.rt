@@ -2,30 +2,27 @@
 // over the list measures, one writes.
 #![tactic(auto)]
 
-ghost use Rattle.std.specs.Prelude.{◌≡◌, cond, [], ◌∷◌, ◌+◌, ◌*◌, ◌≤◌, eqb, length, take, drop};
+ghost use Rattle.std.specs.Prelude.{◌≡◌, ◌+◌, ◌*◌, ◌≤◌, length};
 ghost use Rattle.std.proofs.lemmas.List.Edits.{sets};
 ghost use Rattle.words.specs.Words.{over};
-ghost use Rattle.commands.specs.Commands.{port, command_bytes, hole, parameter_table};
+ghost use Rattle.commands.specs.Commands.{port};
 ghost use Rattle.stream.specs.Input.{most_words};
 ghost use Rattle.stream.specs.Read.{list_commands};
-ghost use Rattle.stream.specs.Output.{measured, Stores};
+ghost use Rattle.stream.specs.Output.{answer_to, measured, Stores};
 ghost use Rattle.stream.specs.Pack.{IsRead};
-ghost use Rattle.stream.specs.Unpack.{writes_to, writes_for, log_of, commands_log, unpack_from};
+ghost use Rattle.stream.specs.Unpack.{writes_to, log_of, commands_log, unpack_from};
 ghost use Rattle.stream.specs.Unpack.{unpack as Unpack·unpack};
-ghost use Rattle.unpacker.specs.Inside.{Extends, log_from, WordFits, PutWord};
+ghost use Rattle.unpacker.specs.Inside.{extent_of, values_of, log_from, WordFits, PutWord};
 
-use commands::{
-    Table, command_bytes_in, count_in, has_hole, is_known_in, parameter_table, port_of,
-};
-use stream::{MOST_WORDS, OutputAnswer, one_if, refused, writes_for};
+use commands::{parameters, port_of};
+use stream::{MOST_WORDS, Refusal, Refused, writes_for};
 
-// What the commands of a command word take: the words behind it that are theirs, its dummy among them; how many port
-// writes they are; and what is left of the word above them.
+// What the commands of a command word take: the words behind it that are theirs, its dummy among them; and how many
+// port writes they are.
 #[derive(Clone, Copy)]
 struct Extent {
     words: usize,
     writes: usize,
-    rest: u32,
 }
 
 // Where reading and writing go on.
@@ -35,127 +32,105 @@ struct Places {
     to: usize,
 }
 
-// The extent of the commands of a command word, up to its first byte that is none.
-fn extent_of(table: &Table, word: u32) -> Extent
-    requires { table.now ≡ parameter_table }
-    ensures { Extends word result }
+// The extent of the commands of a command word; none where the word has a hole.
+fn extent_of(word: u32) -> Option<Extent>
+    ensures { result ≡ extent_of word }
 {
-    let mut rest = word;
-    let mut words: usize = 0;
-    let mut writes: usize = 0;
-    let mut none = false;
-    while is_known_in(table, (rest % 256) as u8) {
-        let count = count_in(table, (rest % 256) as u8);
-        words = words + count;
-        writes = writes + writes_for(count);
-        none = count == 0;
-        rest = rest / 256;
+    let mut words = 0;
+    let mut writes = 0;
+    let mut dummy = false;
+    let mut ended = false;
+    for byte in word.to_le_bytes() {
+        match parameters(byte) {
+            None => ended = true,
+            Some(_) if ended => return None,
+            Some(count) => {
+                words += count as usize;
+                writes += writes_for(count as usize);
+                dummy = count == 0;
+            }
+        }
     }
-    Extent {
-        words: words + one_if(none),
-        writes: writes,
-        rest: rest,
-    }
+    Some(Extent {
+        words: words + usize::from(dummy),
+        writes,
+    })
 }
 
-// Whether a word has a hole. Most words end with their commands, and 0 has none.
-fn is_holed(table: &Table, word: u32) -> bool
-    requires { table.now ≡ parameter_table }
-    ensures { result ≡ hole (command_bytes word) }
-{
-    if word == 0 {
-        return false;
-    }
-    has_hole(command_bytes_in(table, word))
-}
-
-// What the list from a place on is answered with where the output is long enough; nothing is stored yet.
-fn measure(table: &Table, words: &[u32], place: usize) -> OutputAnswer
-    requires table_value { table.now ≡ parameter_table }
-    requires words_len_bound { length words.now ≤ most_words }
-    ensures { result ≡ measured commands_log (list_commands place words.now) }
+// How many words the list from a place on is unpacked to, where the output is long enough; nothing is stored yet.
+fn measure(words: &[u32], place: usize) -> Result<u32, Refused>
+    requires { length words.now ≤ most_words }
+    ensures { answer_to result ≡ measured commands_log (list_commands place words.now) }
 {
     let mut i = place;
-    let mut total: usize = 0;
+    let mut total = 0;
     while i < words.len() {
-        let word = words[i];
+        let Some(extent) = extent_of(words[i]) else {
+            return Err(Refused {
+                refusal: Refusal::Hole,
+                place: i as u32,
+            });
+        };
         let next = i + 1;
-        let extent = extent_of(table, word);
-        let behind = extent.words;
-        if is_holed(table, extent.rest) {
-            return refused(3, i as u32);
+        if words.len() - next < extent.words {
+            return Err(Refused {
+                refusal: Refusal::Incomplete,
+                place: i as u32,
+            });
         }
-        if words.len() - next < behind {
-            return refused(8, i as u32);
-        }
-        i = next + behind;
-        total = total + 2 * extent.writes;
+        i = next + extent.words;
+        total += 2 * extent.writes;
     }
-    OutputAnswer {
-        number: 0,
-        place: 0,
-        length: total as u32,
-    }
+    Ok(total as u32)
 }
 
-// A command's port writes into the buffer from `to` on, its parameters from the i-th word on; where the next goes.
-fn put_command(
-    words: &[u32],
-    i: usize,
-    byte: u8,
-    count: usize,
-    buffer: &mut [u32],
-    to: usize,
-) -> usize
-    requires count_in_bounds { i + count ≤ length words.now }
-    requires room { to + 2 * writes_for count ≤ length buffer.old }
-    ensures value { result ≡ to + 2 * writes_for count }
+// The port writes of a command with these parameters, into the buffer from `to` on; where the next goes. "0 for commands
+// without parameters"
+fn put_command(byte: u8, parameters: &[u32], buffer: &mut [u32], to: usize) -> usize
+    requires { to + 2 * length (values_of parameters.now) ≤ length buffer.old }
+    ensures end { result ≡ to + 2 * length (values_of parameters.now) }
     ensures buffer_after { buffer.new
-        ≡ sets buffer.old to
-        (log_of (writes_to (port byte) (cond (eqb count 0) (0 ∷ []) (take count (drop i words.now))))) }
+        ≡ sets buffer.old to (log_of (writes_to (port byte) (values_of parameters.now))) }
 {
     let address = port_of(byte);
-    if count == 0 {
+    if parameters.is_empty() {
         buffer[to] = address;
         buffer[to + 1] = 0;
         return to + 2;
     }
-    let mut j = 0;
-    while j < count {
+    // By index: of a slice that was lent in pairs, as by `as_chunks_mut`, a proof knows the length alone.
+    for (j, value) in parameters.iter().enumerate() {
         buffer[to + 2 * j] = address;
-        buffer[to + 2 * j + 1] = words[i + j];
-        j += 1;
+        buffer[to + 2 * j + 1] = *value;
     }
-    to + 2 * count
+    to + 2 * parameters.len()
 }
 
 // The port writes of the commands of the i-th word, a command word of an accepted list, into the buffer from `to` on.
-fn put_word(table: &Table, words: &[u32], i: usize, buffer: &mut [u32], to: usize) -> Places
-    requires table_value { table.now ≡ parameter_table }
-    requires word_fits { WordFits words.now i to buffer.old }
+fn put_word(words: &[u32], i: usize, buffer: &mut [u32], to: usize) -> Places
+    requires { WordFits words.now i to buffer.old }
     ensures { PutWord words.now i to buffer.old buffer.new result }
 {
     let mut queue = words[i];
     let mut next = i + 1;
     let mut end = to;
-    let mut none = false;
-    while is_known_in(table, (queue % 256) as u8) {
-        let byte = (queue % 256) as u8;
-        let count = count_in(table, byte);
-        end = put_command(words, next, byte, count, buffer, end);
-        next = next + count;
-        none = count == 0;
-        queue = queue / 256;
+    let mut dummy = false;
+    // Over the word and not over its bytes: that is unrolled, and 34h took 1.2 times as long.
+    while let Some(count) = parameters((queue % 256) as u8) {
+        let behind = next + count as usize;
+        end = put_command((queue % 256) as u8, &words[next..behind], buffer, end);
+        next = behind;
+        dummy = count == 0;
+        queue /= 256;
     }
     Places {
-        next: next + one_if(none),
+        next: next + usize::from(dummy),
         to: end,
     }
 }
 
 // The port writes of an accepted list from a place on.
-fn put_list(table: &Table, words: &[u32], place: usize, buffer: &mut [u32])
-    requires table_value { table.now ≡ parameter_table }
+fn put_list(words: &[u32], place: usize, buffer: &mut [u32])
     requires read { IsRead (list_commands place words.now) }
     requires words_in_bounds { length (log_from place words.now) ≤ length buffer.old }
     ensures { buffer.new ≡ over (log_from place words.now) buffer.old }
@@ -163,35 +138,35 @@ fn put_list(table: &Table, words: &[u32], place: usize, buffer: &mut [u32])
     let mut i = place;
     let mut to = 0;
     while i < words.len() {
-        let places = put_word(table, words, i, buffer, to);
-        i = places.next;
-        to = places.to;
+        Places { next: i, to } = put_word(words, i, buffer, to);
     }
 }
 
 // The list from a place on: "unpack 7, first 3, 8, 10". A place past the words is the end; places of refusals count the
 // words from the first.
-pub fn unpack_from(words: &[u32], place: usize, output: &mut [u32]) -> OutputAnswer
-    ensures { Stores (unpack_from place (length output.old) words.now) result
+pub fn unpack_from(words: &[u32], place: usize, output: &mut [u32]) -> Result<u32, Refused>
+    ensures { Stores (unpack_from place (length output.old) words.now) (answer_to result)
         output.old output.new }
 {
     if MOST_WORDS < words.len() {
-        return refused(7, 0);
+        return Err(Refused {
+            refusal: Refusal::NoInput,
+            place: 0,
+        });
     }
-    let table = parameter_table();
-    let answer = measure(&table, words, place);
-    if answer.number != 0 {
-        return answer;
+    let length = measure(words, place)?;
+    if output.len() < length as usize {
+        return Err(Refused {
+            refusal: Refusal::OutputTooShort,
+            place: 0,
+        });
     }
-    if output.len() < answer.length as usize {
-        return refused(10, 0);
-    }
-    put_list(&table, words, place, output);
-    answer
+    put_list(words, place, output);
+    Ok(length)
 }
 
 // Document 01's list reader: the caller's words, and a place in them.
-#[derive(Clone, Copy)]
+#[derive(Clone, Copy, Debug, PartialEq, Eq)]
 pub struct ListReader<'a> {
     pub words: &'a [u32],
     pub place: usize,
@@ -199,25 +174,25 @@ pub struct ListReader<'a> {
 
 impl<'a> ListReader<'a> {
     // A reader at the first word.
-    pub fn new(words: &'a [u32]) -> ListReader<'a>
+    pub fn new(words: &'a [u32]) -> Self
         ensures { (result.words ≡ words.entry) × (result.place ≡ 0) }
     {
-        ListReader { words, place: 0 }
+        Self { words, place: 0 }
     }
 
     // The list from the reader's place on.
-    pub fn unpack<'b>(self, output: &'b mut [u32]) -> OutputAnswer
+    pub fn unpack(self, output: &mut [u32]) -> Result<u32, Refused>
         ensures { Stores
             (unpack_from self.entry.place (length output.old) self.entry.words.now)
-            result output.old output.new }
+            (answer_to result) output.old output.new }
     {
         unpack_from(self.words, self.place, output)
     }
 }
 
 // The whole list, by a reader at its first word.
-pub fn unpack(words: &[u32], output: &mut [u32]) -> OutputAnswer
-    ensures { Stores (Unpack·unpack (length output.old) words.now) result
+pub fn unpack(words: &[u32], output: &mut [u32]) -> Result<u32, Refused>
+    ensures { Stores (Unpack·unpack (length output.old) words.now) (answer_to result)
         output.old output.new }
 {
     ListReader::new(words).unpack(output)

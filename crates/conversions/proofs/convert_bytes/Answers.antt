@@ -1,8 +1,8 @@
-use mathlib.Core.Path.{sym, ap, subst, ◌∙◌}
+use mathlib.Core.Path.{refl, sym, ap, subst, ◌∙◌}
 use native.Mathlib.Omega.{arith}
 use lib.ListN.{length}
 use lib.Seq.{length-take-le}
-use Rattle.stream.specs.Output.{Output, Stores}
+use Rattle.stream.specs.Output.{Output, answer_to, Stores}
 use Rattle.stream.proofs.InputLaws.{InputRead, input-read}
 use Rattle.stream.proofs.OutputLaws.{stores-none}
 use Rattle.conversions.specs.Convert.{convert}
@@ -12,10 +12,10 @@ use Rattle.conversions.proofs.convert_bytes.Goals.{After-read_words}
 
 pub returns-then-not-is_input : goal.returns-then-not-is_input
 returns-then-not-is_input c =
-    stores-none 7 0 c.refused.result c.args.output.now
+    stores-none 7 0 _ c.args.output.now
     (input-refused c.args.log (length c.args.output.now) c.args.input.now
     (sym c.is_input.ensures ∙ c.if-not-is_input.true))
-    c.refused.ensures
+    refl
 
 -- the input is read
 read : (c : After-read_words) → InputRead c.args.log c.args.input.now c.read_words.new.buffer
@@ -36,6 +36,6 @@ pub returns : goal.returns
 returns c =
     let n = length c.args.output.now in
     let r = read (goal.at.returns c).After-read_words in
-    subst (λ (o : Output). Stores o c.convert_words.result c.args.output.now c.convert_words.new.output)
+    subst (λ (o : Output). Stores o (answer_to c.convert_words.result) c.args.output.now c.convert_words.new.output)
     (ap (convert c.args.log n) r.words ∙ sym (input_converted c.args.log n c.args.input.now r.is-input))
     c.convert_words.ensures

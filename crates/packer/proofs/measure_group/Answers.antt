@@ -1,60 +1,49 @@
-use mathlib.Core.Logic.{inl, inr}
-use Prim.Native.Nat.{◌+◌, ◌≤◌}
+use mathlib.Core.Logic.{◌⊎◌, inl, inr}
+use mathlib.Core.Path.{◌≡◌}
+use Prim.Native.Nat.{◌≤◌}
 use native.Mathlib.Omega.{arith}
-use Rattle.stream.specs.Unpack.{writes_for}
+use lib.ListN.{length}
+use Rattle.std.proofs.lemmas.Result.{err_from_is_err_and}
 use Rattle.stream.proofs.PackLaws.{one-most}
+use Rattle.packer.specs.Inside.{writes_of}
+use Rattle.packer.proofs.ValueLaws.{length-writes_of}
 use Rattle.packer.proofs.GroupLaws.{group-start, group-bounds, group-more-fits, group-more}
-use Rattle.packer.proofs.GroupLaws.{group-stopped, group-end}
+use Rattle.packer.proofs.GroupLaws.{group-stopped, one-if, group-end}
 use Rattle.packer.proofs.measure_group.Goals as goal
-use Rattle.packer.proofs.measure_group.Goals.{After-writes_for-next}
-use Rattle.packer.proofs.measure_group.Goals.{then-loop-slot-test+else-next-pairs, else-loop-slot-test}
+use Rattle.packer.proofs.measure_group.Goals.{else-loop-slot-test, then-loop-slot-test+then-log-next}
 
 pub loop-slot-init : goal.loop-slot-init
-loop-slot-init c = group-start c.args.i c.requires.log c.requires.i_lt_pairs
+loop-slot-init c =
+    let n = length-writes_of c.args.log.now in
+    group-start (omega (arith, n)) (omega (arith, n))
 
-pub next_command-found-requires : goal.next_command-found-requires
-next_command-found-requires c =
-    record {
-      table_value = c.requires.table_value;
-      log = c.loop-slot.invariant.is_log;
-      i_lt_pairs = c.if-next-pairs.true;
-    }
-
-pub returns-then-found-ne0 : goal.returns-then-found-ne0
-returns-then-found-ne0 c =
-    rw c.not_a_group.ensures
-    (group-stopped c.loop-slot.invariant c.next_command-found.result c.next_command-found.ensures
-    c.if-found-ne0.true)
-
--- the next command is within the log, and its parameters are few
-fits : (c : After-writes_for-next)
-    → let n = c.next_command-found.result.count in
-    (c.loop-slot.next + writes_for n ≤ 4096) × (c.loop-slot.size + n ≤ 160)
-fits c =
-    group-more-fits c.loop-slot.invariant c.next_command-found.result c.next_command-found.ensures
-    c.if-found-ne0.false
+pub returns-in_err-count : goal.returns-in_err-count
+returns-in_err-count c =
+    let p = err_from_is_err_and c.from_residual.result c.from_residual.ensures.1 in
+    rw (p.1, p.2) (group-stopped c.loop-slot.invariant _ c.in_err-count.ensures)
 
 pub overflow_add-next : goal.overflow_add-next
-overflow_add-next c = omega (arith, fits c, c.writes_for-next.ensures)
+overflow_add-next c =
+    omega (arith, group-more-fits c.loop-slot.invariant c.in_ok-count.ensures, c.writes_for-next.ensures)
 
 pub overflow_add-size : goal.overflow_add-size
-overflow_add-size c = omega (arith, fits c)
+overflow_add-size c = omega (arith, group-more-fits c.loop-slot.invariant c.in_ok-count.ensures)
 
 pub loop-slot-preserved : goal.loop-slot-preserved
 loop-slot-preserved c =
     rw c.writes_for-next.ensures
-    (group-more c.loop-slot.invariant c.next_command-found.result c.next_command-found.ensures
-    c.loop-slot-test.true c.if-found-ne0.false)
+    (group-more c.loop-slot.invariant c.in_ok-count.ensures c.loop-slot-test.true)
 
 pub overflow_add-result-2 : goal.overflow_add-result-2
 overflow_add-result-2 c =
-    omega (arith, group-bounds c.loop-slot.invariant, c.one_if.ensures, one-most c.loop-slot.none)
+    omega (arith, group-bounds c.loop-slot.invariant, c.from.ensures, one-if c.loop-slot.none, one-most c.loop-slot.none)
 
 pub returns : goal.returns
 returns c =
-    rw c.one_if.ensures
-    (group-end c.loop-slot.invariant
-    (elim c.loop-slot-test.branch [
-      | then-loop-slot-test+else-next-pairs w ↦ inr w.if-next-pairs.false
+    let n = length-writes_of c.args.log.now in
+    let way : (c.loop-slot._slot ≡ 4) ⊎ (length (writes_of c.args.log.now) ≤ c.loop-slot.next) =
+    elim c.loop-slot-test.branch [
+      | then-loop-slot-test+then-log-next w ↦ inr (omega (arith, n, w.if-log-next.true))
       | else-loop-slot-test w ↦ inl (omega (arith, w.loop-slot-test.false, group-bounds c.loop-slot.invariant))
-    ]))
+    ] in
+    rw (c.from.ensures, one-if) (group-end c.loop-slot.invariant way)

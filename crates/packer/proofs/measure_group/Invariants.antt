@@ -1,9 +1,6 @@
-use Prim.Native.Nat.{◌-◌}
+use Rattle.packer.specs.Inside.{writes_of}
 use Rattle.packer.proofs.GroupLaws.{MeasuringGroup}
 use Rattle.packer.proofs.measure_group.Given as goal
 
 abbrev pub invariant-loop-slot : goal.invariant-loop-slot
-invariant-loop-slot l = MeasuringGroup l.log l.pairs l.i l.next l.slot l.size l.none
-
-abbrev pub decreases-loop-slot : goal.decreases-loop-slot
-decreases-loop-slot l = 4 - l.slot
+invariant-loop-slot l = MeasuringGroup (writes_of l.log) l.i l.next l._slot l.size l.none

@@ -1,29 +1,34 @@
-use mathlib.Core.Path.{sym, ◌∙◌}
+use mathlib.Core.Path.{sym, ap, ◌∙◌}
 use native.Mathlib.Omega.{arith}
+use Rattle.commands.specs.Commands.{lookup, command_at}
 use Rattle.commands.proofs.Commands.{port_takes, port-unknown}
-use Rattle.packer.specs.Inside.{AtPort}
-use Rattle.packer.proofs.CommandWalk.{walk_none, walk_start, walk_end, not_found, is_found}
+use Rattle.packer.specs.Inside.{writes_of, write_at, AtPort}
+use Rattle.packer.proofs.ValueLaws.{length-writes_of, address-of}
+use Rattle.packer.proofs.CommandWalk.{walk_none, walk_start, walk_end}
 use Rattle.packer.proofs.next_command.Goals as goal
-use Rattle.packer.proofs.next_command.Goals.{In-Takes}
+use Rattle.packer.proofs.next_command.Goals.{In-Some}
 
 -- the write goes to a command's port
-at-port : (c : In-Takes)
-    → AtPort c.args.log.now c.args.i c.in-Takes.n
+at-port : (c : In-Some) → AtPort (writes_of c.args.log.now) c.args.i c.in-Some.count
 at-port c =
-    let t = port_takes _ _ (sym c.port_parameters_in.ensures ∙ c.in-Takes.is) in
+    let a = address-of c.args.log.now c.args.i c.requires.within in
+    let t = port_takes (write_at (writes_of c.args.log.now) c.args.i).address c.in-Some.count
+    (ap (λ x. lookup (command_at x)) a ∙ sym c.port_parameters.ensures ∙ c.in-Some.is) in
     record { is-command = t.0; counted = t.1 }
 
-pub returns-then-n-eq0 : goal.returns-then-n-eq0
-returns-then-n-eq0 c =
-    let p = rw c.if-n-eq0.true at (at-port (goal.at.returns-then-n-eq0 c).In-Takes) in
-    is_found c.complete_command.ensures
-    (walk_end (walk_start c.requires.log c.args.i c.requires.i_lt_pairs 0 p) (omega arith))
+pub returns-in_default : goal.returns-in_default
+returns-in_default c =
+    let a = address-of c.args.log.now c.args.i c.requires.within in
+    rw c.refused.ensures
+    (walk_none (writes_of c.args.log.now) c.args.i (omega (arith, length-writes_of c.args.log.now))
+    (port-unknown _ (ap (λ x. lookup (command_at x)) a ∙ sym c.port_parameters.ensures ∙ c.in_default.is)))
+
+pub returns-then-count-eq0 : goal.returns-then-count-eq0
+returns-then-count-eq0 c =
+    let p = rw c.if-count-eq0.true at (at-port (goal.at.returns-then-count-eq0 c).In-Some) in
+    let n = length-writes_of c.args.log.now in
+    walk_end (walk_start (writes_of c.args.log.now) c.args.i (omega (arith, n)) p) (omega arith)
 
 pub all_written-requires-clause-at_port : goal.all_written-requires-clause-at_port
-all_written-requires-clause-at_port c = at-port (goal.at.all_written-requires-clause-at_port c).In-Takes
-
-pub returns-in-Unknown : goal.returns-in-Unknown
-returns-in-Unknown c =
-    not_found c.not_found.ensures (omega arith)
-    (walk_none c.requires.log c.args.i c.requires.i_lt_pairs
-    (port-unknown _ (sym c.port_parameters_in.ensures ∙ c.in-Unknown.is)))
+all_written-requires-clause-at_port c =
+    rw c.from.ensures (at-port (goal.at.all_written-requires-clause-at_port c).In-Some)

@@ -1,44 +1,67 @@
-use mathlib.Core.Bool.{true}
-use mathlib.Core.Path.{◌≡◌, sym, ◌∙◌}
-use Prim.Native.Nat.{◌+◌, ◌/◌, ◌%◌, ◌<◌}
+use mathlib.Core.List.{◌∷◌}
+use mathlib.Core.Path.{ap, ◌∙◌}
+use Prim.Native.Nat.{◌+◌}
 use native.Mathlib.Omega.{arith}
-use lib.Dec.{eqb}
-use Rattle.commands.specs.Commands.{known}
-use Rattle.commands.proofs.Table.{known-range, count_small}
-use Rattle.stream.proofs.PackLaws.{one-most}
-use Rattle.unpacker.proofs.ExtentLaws.{Extending, extent_bounds, extent_more, extent_end}
+use lib.ListN.{length, get_or, drop, drop_of_length-le}
+use Rattle.words.proofs.Over.{drop-next}
+use Rattle.stream.proofs.UnpackLaws.{writes_for_bounds}
+use Rattle.unpacker.proofs.ByteLaws.{takes, no_command, dummy_word}
+use Rattle.unpacker.proofs.ExtentLaws.{Extending, extent_start, extent_ended, extent_hole, extent_more, extent_end}
 use Rattle.unpacker.proofs.extent_of.Goals as goal
-use Rattle.unpacker.proofs.extent_of.Goals.{After-writes_for-writes}
+use Rattle.unpacker.proofs.extent_of.Goals.{After-parameters, in-None, in-Some-2}
 
-pub overflow_add-words : goal.overflow_add-words
-overflow_add-words c =
-    omega (arith, extent_bounds c.loop-none.invariant, c.count_in-count.ensures, count_small (c.loop-none.rest % 256))
+pub loop-byte-init : goal.loop-byte-init
+loop-byte-init c =
+    record {
+      so_far = rw c.to_le_bytes-byte-items.ensures (extent_start c.args.word);
+      words_few = omega arith;
+      writes_few = omega arith;
+    }
 
--- a turn of the loop
-turn : (c : After-writes_for-writes) → let n = c.count_in-count.result in
-    (c.loop-none.rest / 256 < c.loop-none.rest)
-    × Extending c.args.word (c.loop-none.rest / 256) (c.loop-none.words + n)
-    (c.loop-none.writes + c.writes_for-writes.result) (eqb n 0)
-turn c =
-    let k : known (c.loop-none.rest % 256) ≡ true = sym c.is_known_in.ensures ∙ c.loop-none-test.true in (
-      omega (arith, known-range (c.loop-none.rest % 256) k),
-      extent_more c.loop-none.invariant k _ _ c.count_in-count.ensures c.writes_for-writes.ensures,
-    )
+-- a turn begins at a byte
+at-byte : (c : After-parameters)
+    → Extending c.args.word
+    (get_or c.to_le_bytes-byte-items.result c.loop-byte.byte-index 0
+    ∷ drop (c.loop-byte.byte-index + 1) c.to_le_bytes-byte-items.result)
+    c.loop-byte.words c.loop-byte.writes c.loop-byte.dummy c.loop-byte.ended
+at-byte c =
+    let bs = c.to_le_bytes-byte-items.result in
+    let i = c.loop-byte.byte-index in
+    rw (drop-next bs i 0 (omega (arith, ap length c.to_le_bytes-byte-items.ensures))) at c.loop-byte.invariant.so_far
+
+pub returns-in-Some : goal.returns-in-Some
+returns-in-Some c =
+    let b = takes _ _ c.in-Some.ensures in
+    let h = extent_hole (at-byte (goal.at.returns-in-Some c).After-parameters) b.0 c.if-ended.true in
+    rw h
 
 pub overflow_add-writes : goal.overflow_add-writes
-overflow_add-writes c = omega (arith, extent_bounds (turn c).1)
+overflow_add-writes c =
+    let b = takes _ _ c.in-Some.ensures in
+    omega (arith, c.loop-byte.invariant.writes_few, c.writes_for-writes.ensures, writes_for_bounds c.in-Some.field-0, b.2)
 
-pub loop-none-smaller : goal.loop-none-smaller
-loop-none-smaller c = (turn c).0
-
-pub loop-none-preserved : goal.loop-none-preserved
-loop-none-preserved c = (turn c).1
-
-pub overflow_add-result : goal.overflow_add-result
-overflow_add-result c =
-    omega (arith, extent_bounds c.loop-none.invariant, c.one_if.ensures, one-most c.loop-none.none)
+pub loop-byte-preserved : goal.loop-byte-preserved
+loop-byte-preserved c =
+    elim c.match-parameters.branch [
+      | in-None w ↦
+          (let s = extent_ended (at-byte (goal.at.loop-byte-preserved c).After-parameters) (no_command _ w.in-None.ensures) in
+          record {
+            so_far = rw (w.words-is, w.writes-is, w.dummy-is, w.ended-is) s;
+            words_few = omega arith;
+            writes_few = omega arith;
+          })
+      | in-Some-2 w ↦
+          (let b = takes _ _ w.in-Some.ensures in
+          let s = extent_more (at-byte (goal.at.loop-byte-preserved c).After-parameters) b.0 w.if-ended.false _ _ b.1 w.writes_for-writes.ensures in
+          record {
+            so_far = rw (w.words-is, w.writes-is, w.dummy-is, w.ended-is) s;
+            words_few = omega (arith, b.2);
+            writes_few = omega (arith, b.2, w.writes_for-writes.ensures, writes_for_bounds w.in-Some.field-0);
+          })
+    ]
 
 pub returns : goal.returns
 returns c =
-    extent_end c.loop-none.invariant (sym c.is_known_in.ensures ∙ c.loop-none-test.false) _
-    c.one_if.ensures
+    let bs = c.to_le_bytes-byte-items.result in
+    let e = drop_of_length-le bs {i = c.loop-byte.byte-index} (omega (arith, ap length c.to_le_bytes-byte-items.ensures)) in
+    extent_end (rw e at c.loop-byte.invariant.so_far) _ (c.from.ensures ∙ dummy_word c.loop-byte.dummy)

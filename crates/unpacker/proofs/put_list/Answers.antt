@@ -10,17 +10,17 @@ loop-i-init c =
     put_list_start c.args.words.now c.args.buffer.now c.args.place
     (or_none (list_commands c.args.place c.args.words.now)) c.requires.read c.requires.words_in_bounds
 
-pub put_word-places-requires-clause-word_fits : goal.put_word-places-requires-clause-word_fits
-put_word-places-requires-clause-word_fits c = word_fits c.loop-i.invariant c.loop-i-test.true
+pub put_word-requires : goal.put_word-requires
+put_word-requires c = word_fits c.loop-i.invariant c.loop-i-test.true
 
 pub loop-i-smaller : goal.loop-i-smaller
 loop-i-smaller c =
     let h = c.loop-i-test.true in
-    omega (arith, put_list_next c.loop-i.invariant h _ c.put_word-places.result c.put_word-places.ensures, h)
+    omega (arith, put_list_next c.loop-i.invariant h _ c.put_word.result c.put_word.ensures, h)
 
 pub loop-i-preserved : goal.loop-i-preserved
 loop-i-preserved c =
-    put_list_more c.loop-i.invariant c.loop-i-test.true _ c.put_word-places.result c.put_word-places.ensures
+    put_list_more c.loop-i.invariant c.loop-i-test.true _ c.put_word.result c.put_word.ensures
 
 pub returns : goal.returns
 returns c = put_list_end c.loop-i.invariant c.loop-i-test.false

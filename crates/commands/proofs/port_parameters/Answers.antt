@@ -2,7 +2,7 @@ use mathlib.Core.Path.{sym, ap, ◌∙◌}
 use Rattle.commands.specs.Commands.{lookup}
 use Rattle.commands.proofs.Commands.{below_ports, between_ports, at_byte, counted-far, lookup-counted}
 use Rattle.commands.proofs.Commands.{lookup-none}
-use Rattle.commands.proofs.port_parameters_in.Goals as goal
+use Rattle.commands.proofs.port_parameters.Goals as goal
 
 pub returns-then-address-lt-PORTS : goal.returns-then-address-lt-PORTS
 returns-then-address-lt-PORTS c = sym (lookup-none _ (below_ports _ c.if-address-lt-PORTS.true))
@@ -17,6 +17,6 @@ returns-then-c-gt255 c =
 
 pub returns : goal.returns
 returns c =
-    c.parameters_in.ensures
+    c.parameters.ensures
     ∙ sym (ap lookup (at_byte _ c.if-address-lt-PORTS.false c.if-d-ne0.false)
     ∙ lookup-counted _)
