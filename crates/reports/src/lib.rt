@@ -12,7 +12,7 @@ ghost use Rattle.reports.specs.Inside.{output_text, longest_text, report_of};
 
 use conversions::convert_bytes;
 use listing::Text;
-use stream::{longest_list, longest_log};
+use stream::{Refused, longest_list, longest_log};
 
 // The words of an output: those of a list, where `log` holds, since a log was packed; else those of a log.
 fn put_output(text: &mut Text, log: bool, words: &[u32])
@@ -35,12 +35,10 @@ fn put_report(text: &mut Text, log: bool, input: &[u8], words: &mut [u32])
     ensures puts { text.new ≡ with_bytes text.old (report_of log input.now) }
     ensures within { text.new.length ≤ text.old.length + longest_text log }
 {
-    let answer = convert_bytes(log, input, &mut *words);
-    if answer.number != 0 {
-        return text.put_refused(answer.number, answer.place);
+    match convert_bytes(log, input, &mut *words) {
+        Err(Refused { refusal, place }) => text.put_refused(refusal.into(), place),
+        Ok(length) => put_output(text, log, &words[..length as usize]),
     }
-    let length = answer.length as usize;
-    put_output(text, log, &words[..length]);
 }
 
 // Room for the longest report of a log: the first line, of at most 17 bytes, and 16,384 lines of 18. What it holds is
