@@ -21,14 +21,14 @@ pub struct BothEnds {
 }
 
 // No item was fed.
-fn none_fed(e: Engine) -> ListAnswer
-    ensures { result ≡ record { number = 0; place = 0; taken = 0; engine = e } }
+fn none_fed(engine: Engine) -> ListAnswer
+    ensures { result ≡ record { number = 0; place = 0; taken = 0; engine = engine } }
 {
     ListAnswer {
         number: 0,
         place: 0,
         taken: 0,
-        engine: e,
+        engine,
     }
 }
 
@@ -55,20 +55,20 @@ pub fn run_both(
         (lent result.writes.engine vertices.new polygons.new)
         (lent result.words.engine vertices2.new polygons2.new) }
 {
-    let packed = pack(log, output);
-    if packed.number != 0 {
+    let outcome = pack(log, output);
+    let packed = OutputAnswer::from(outcome);
+    let Ok(length) = outcome else {
         return BothEnds {
-            packed: packed,
+            packed,
             writes: none_fed(e),
             words: none_fed(e),
         };
-    }
-    let writes = feed_writes(e, log, &mut *vertices, &mut *polygons);
-    let count = packed.length as usize;
-    let words = feed_words(e, &output[..count], &mut *vertices2, &mut *polygons2);
+    };
+    let writes = feed_writes(e, log, vertices, polygons);
+    let words = feed_words(e, &output[..length as usize], vertices2, polygons2);
     BothEnds {
-        packed: packed,
-        writes: writes,
-        words: words,
+        packed,
+        writes,
+        words,
     }
 }

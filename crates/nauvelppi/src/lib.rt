@@ -17,7 +17,7 @@ ghost use Rattle.nauvelppi.specs.InPlace.{in_place};
 ghost use Rattle.nauvelppi.specs.Bytes.{on_all_bytes, StoresBytes};
 
 use conversions::convert_bytes;
-use engine::{feed_words, port_write, word};
+use engine::{feed_words, port_write, word, word_in_place};
 use registers::{
     CornerAnswer, FlagAnswer, MatrixAnswer, StatusAnswer, clear_error, clear_overflow, clip_matrix,
     overflow, status, vector_matrix,
@@ -83,7 +83,7 @@ pub extern "C" fn nauvelppi_word(
         ≡ word_reply (machine_of e vertices.old polygons.old) w }
     ensures given_back { GivenBack e result }
 {
-    word(e, w, &mut *vertices, &mut *polygons)
+    word(e, w, vertices, polygons)
 }
 
 // One port write, as `engine::port_write`: refused with 1, 2, 5, 4 or 6, in this order.
@@ -99,7 +99,7 @@ pub extern "C" fn nauvelppi_port_write(
         ≡ port_reply (machine_of e vertices.old polygons.old) (write address value) }
     ensures given_back { GivenBack e result }
 {
-    port_write(e, address, value, &mut *vertices, &mut *polygons)
+    port_write(e, address, value, vertices, polygons)
 }
 
 // What the entry that updates the caller's own record answers: 0, or the number that it refuses with; a place.
@@ -123,11 +123,10 @@ pub extern "C" fn nauvelppi_word_in_place(
         ≡ word_reply (machine_of engine.old vertices.old polygons.old) w }
     ensures given_back { GivenBack engine.old (in_place result engine.new) }
 {
-    let r = word(*engine, w, &mut *vertices, &mut *polygons);
-    *engine = r.engine;
+    let refusal = word_in_place(engine, w, vertices, polygons);
     CallAnswer {
-        number: r.number,
-        place: r.place,
+        number: call_number(refusal),
+        place: 0,
     }
 }
 
@@ -144,7 +143,7 @@ pub extern "C" fn nauvelppi_words(
     ensures place_value { result.place ≡ place_of result.number result.taken }
     ensures first_given_back { FirstGivenBack e result }
 {
-    feed_words(e, words, &mut *vertices, &mut *polygons)
+    feed_words(e, words, vertices, polygons)
 }
 
 // The status word, as `registers::status`.
@@ -152,7 +151,7 @@ pub extern "C" fn nauvelppi_words(
 pub extern "C" fn nauvelppi_status(e: Engine) -> StatusAnswer
     ensures { result ≡ read_status e }
 {
-    status(e)
+    status(&e)
 }
 
 // The clip matrix, as `registers::clip_matrix`.
@@ -160,7 +159,7 @@ pub extern "C" fn nauvelppi_status(e: Engine) -> StatusAnswer
 pub extern "C" fn nauvelppi_clip_matrix(e: Engine) -> MatrixAnswer
     ensures { result ≡ read_clip_matrix e }
 {
-    clip_matrix(e)
+    clip_matrix(&e)
 }
 
 // The 3x3 corner of the vector matrix, as `registers::vector_matrix`.
@@ -168,7 +167,7 @@ pub extern "C" fn nauvelppi_clip_matrix(e: Engine) -> MatrixAnswer
 pub extern "C" fn nauvelppi_vector_matrix(e: Engine) -> CornerAnswer
     ensures { result ≡ read_vector_matrix e }
 {
-    vector_matrix(e)
+    vector_matrix(&e)
 }
 
 // The overflow flag, as `registers::overflow`.
@@ -176,7 +175,7 @@ pub extern "C" fn nauvelppi_vector_matrix(e: Engine) -> CornerAnswer
 pub extern "C" fn nauvelppi_overflow(e: Engine) -> FlagAnswer
     ensures { result ≡ read_overflow e }
 {
-    overflow(e)
+    overflow(&e)
 }
 
 // The error flag is cleared, as `registers::clear_error`.
