@@ -19,7 +19,7 @@ fn print_refused(rt: &impl Print, number: u32, place: u32) -> io::Result<()> {
 // How a side ended.
 fn print_end(rt: &impl Print, side: &str, end: &ListAnswer) -> io::Result<()> {
     let used = end.engine.core.registers.geometry.used;
-    let read = status(end.engine);
+    let read = status(&end.engine);
     println!(rt;
         "{side}: number {} taken {} vertices {} polygons {} status {:08x}",
         end.number, end.taken, used.vertices, used.polygons, read.status,
