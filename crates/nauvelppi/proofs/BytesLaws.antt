@@ -1,6 +1,6 @@
 -- Laws of calls whose input and output are bytes.
 use mathlib.Core.Bool.{Bool, true, false}
-use mathlib.Core.List.{List, ◌++◌, append_assoc}
+use mathlib.Core.List.{List, [], ◌++◌, append_assoc}
 use mathlib.Core.Path.{◌≡◌, refl, sym, ap, ◌∙◌}
 use Prim.Native.Nat.{ℕ, ◌/◌, ◌%◌, ◌≤◌, ◌<◌, min}
 use native.Mathlib.Omega.{arith}
@@ -8,6 +8,7 @@ use lib.Dec.{leb}
 use lib.ListN.{length, take, drop}
 use lib.Seq.{take_all, take-append_seam, length-take-le, length_front}
 use borrow.Author.Tests.{leb-true, leb-false, eq-eqb, ne_eqb}
+use Rattle.std.proofs.lemmas.List.{nil_from_length}
 use Rattle.words.specs.Words.{bytes_of, over}
 use Rattle.words.proofs.Over.{over_none}
 use Rattle.stream.specs.declared.OutputAnswer.{OutputAnswer}
@@ -94,3 +95,12 @@ module _ {log : Bool} {size : ℕ} {input buffer part : List ℕ} {n : ℕ} {r :
       take_all (length old / 4) words (omega (arith, words-fit, e, m.capacity)) in
       rw (← output-is)
       (record { answer = stores-n.answer; buffer = q ∙ rw (words-lent, all) })
+
+  -- a refusal stores nothing
+  pub stores-no-bytes : r.length ≡ 0 → (old : List ℕ) → StoresBytes (on_all_bytes (convert log) size input) r old old
+  unfolding bytes_of
+  stores-no-bytes z old =
+      let words : List ℕ = (on_bytes (convert log n) input).words in
+      let none : words ≡ [] =
+      nil_from_length words (omega (arith, z, ap (λ (x : OutputAnswer). x.length) stores-n.answer)) in
+      rw (← output-is) (record { answer = stores-n.answer; buffer = rw none (sym (over_none old)) })

@@ -5,6 +5,7 @@
 ghost use Rattle.std.specs.Prelude.{◌≡◌, length};
 ghost use Rattle.stream.specs.Command.{write};
 ghost use Rattle.stream.specs.Feed.{place_of};
+ghost use Rattle.stream.specs.Output.{answer_to};
 ghost use Rattle.stream.specs.Pack.{pack};
 ghost use Rattle.stream.specs.Unpack.{unpack};
 ghost use Rattle.conversions.specs.Convert.{convert, longest_output};
@@ -23,24 +24,26 @@ use registers::{
     overflow, status, vector_matrix,
 };
 use state::{Answer, Engine, ListAnswer};
-use stream::{OutputAnswer, longest_list, longest_log, refused};
-use words::{least, write_words};
+use stream::{OutputAnswer, Refusal, Refused, longest_list, longest_log};
+use words::write_words;
 
 // A log, where `log` holds, is packed to a list; else a list is unpacked to a log. Both are bytes, little-endian words;
 // `words` is lent for those of the output.
-fn convert_to(log: bool, input: &[u8], words: &mut [u32], output: &mut [u8]) -> OutputAnswer
+fn convert_to(log: bool, input: &[u8], words: &mut [u32], output: &mut [u8]) -> Result<u32, Refused>
     requires { length words.old ≡ longest_output log }
-    ensures { StoresBytes (on_all_bytes (convert log) (length output.old) input.now) result
-        output.old output.new }
+    ensures { StoresBytes (on_all_bytes (convert log) (length output.old) input.now)
+        (answer_to result) output.old output.new }
 {
     if output.len() % 4 != 0 {
-        return refused(7, 0);
+        return Err(Refused {
+            refusal: Refusal::NoInput,
+            place: 0,
+        });
     }
-    let capacity = least(output.len() / 4, words.len());
-    let answer = convert_bytes(log, input, &mut words[..capacity]);
-    let length = answer.length as usize;
-    write_words(&words[..length], output);
-    answer
+    let capacity = (output.len() / 4).min(words.len());
+    let length = convert_bytes(log, input, &mut words[..capacity])?;
+    write_words(&words[..length as usize], output);
+    Ok(length)
 }
 
 // A log as bytes is packed to a list as bytes, little-endian words both.
@@ -50,7 +53,7 @@ pub extern "C" fn nauvelppi_pack(log: &[u8], output: &mut [u8]) -> OutputAnswer
         output.old output.new }
 {
     let mut list = longest_list();
-    convert_to(true, log, &mut list, output)
+    convert_to(true, log, &mut list, output).into()
 }
 
 // A list as bytes is unpacked to a log as bytes, little-endian words both.
@@ -60,7 +63,7 @@ pub extern "C" fn nauvelppi_unpack(list: &[u8], output: &mut [u8]) -> OutputAnsw
         output.old output.new }
 {
     let mut log = longest_log();
-    convert_to(false, list, &mut log, output)
+    convert_to(false, list, &mut log, output).into()
 }
 
 // The fresh engine with these rooms: 1 to 6,144 vertices and 1 to 2,048 polygons.
