@@ -12,37 +12,18 @@ use stream::{is_input, longest_list};
 use terminal::{input_buffer, read_full};
 use words::read_words;
 
-fn print_text(rt: &impl Print, text: &[u8]) -> io::Result<()> {
-    rt.write_all(text)
-}
-
-// A name, then a number in decimal.
-fn print_number(rt: &impl Print, name: &[u8], n: u64) -> io::Result<()> {
-    print_text(rt, name)?;
-    print!(rt; "{n}")
-}
-
-// A name, then a number as eight hex digits.
-fn print_hex(rt: &impl Print, name: &[u8], n: u32) -> io::Result<()> {
-    print_text(rt, name)?;
-    print!(rt; "{n:08x}")
-}
-
 fn print_refused(rt: &impl Print, number: u32, place: u32) -> io::Result<()> {
-    print_number(rt, b"refused ", number as u64)?;
-    print_number(rt, b" ", place as u64)?;
-    print_text(rt, b"\n")
+    println!(rt; "refused {number} {place}")
 }
 
-fn print_end(rt: &impl Print, name: &[u8], end: ListAnswer) -> io::Result<()> {
+// How a side ended.
+fn print_end(rt: &impl Print, side: &str, end: &ListAnswer) -> io::Result<()> {
     let used = end.engine.core.registers.geometry.used;
-    let read = status(end.engine);
-    print_number(rt, name, end.number as u64)?;
-    print_number(rt, b" taken ", end.taken as u64)?;
-    print_number(rt, b" vertices ", used.vertices as u64)?;
-    print_number(rt, b" polygons ", used.polygons as u64)?;
-    print_hex(rt, b" status ", read.status)?;
-    print_text(rt, b"\n")
+    let read = status(&end.engine);
+    println!(rt;
+        "{side}: number {} taken {} vertices {} polygons {} status {:08x}",
+        end.number, end.taken, used.vertices, used.polygons, read.status,
+    )
 }
 
 // Both sides of a log, each with buffers of its own.
@@ -65,10 +46,9 @@ fn print_both(rt: &impl Print, log: &[u32]) -> io::Result<()> {
     if ends.packed.number != 0 {
         return print_refused(rt, ends.packed.number, ends.packed.place);
     }
-    print_number(rt, b"words ", ends.packed.length as u64)?;
-    print_text(rt, b"\n")?;
-    print_end(rt, b"writes: number ", ends.writes)?;
-    print_end(rt, b"words: number ", ends.words)
+    println!(rt; "words {}", ends.packed.length)?;
+    print_end(rt, "writes", &ends.writes)?;
+    print_end(rt, "words", &ends.words)
 }
 
 fn main(rt: HostRuntime) -> io::Result<()> {

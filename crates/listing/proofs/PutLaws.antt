@@ -1,15 +1,18 @@
 -- Text put into a buffer piece by piece.
 use mathlib.Core.List.{List, [], ◌++◌, append_assoc}
-use mathlib.Core.Path.{◌≡◌, refl, ◌∙◌}
+use mathlib.Core.Path.{◌≡◌, refl, sym, ap, ◌∙◌}
 use Prim.Native.Nat.{ℕ, ◌+◌, ◌-◌, ◌≤◌}
-use native.Mathlib.Nat.{add_assoc, add-zero}
+use native.Mathlib.Nat.{add_assoc, add-zero, zero-add}
 use native.Mathlib.Omega.{arith}
 use lib.ListN.{length, length-append}
-use lib.Seq.{sets, sets-eq, length-sets, drop-drop}
+use lib.Seq.{sets, sets-eq, length-sets, length-take-le, drop-drop}
 use borrow.Rule.Slice.PartMut.{put_mid}
-use Rattle.words.proofs.Over.{sets-append}
+use Rattle.std.specs.Borrow.{MutBor}
+use Rattle.io.specs.Counts.{IsPrefixLen}
+use Rattle.words.specs.Words.{over}
+use Rattle.words.proofs.Over.{sets-append, sets_over}
 use Rattle.listing.specs.declared.Text.{Text}
-use Rattle.listing.specs.Buffer.{with_bytes}
+use Rattle.listing.specs.Buffer.{empty_text, with_bytes}
 use Rattle.listing.proofs.NumberLaws.{length-decimal, length-hex, decimal-written, hex-digits}
 use Rattle.listing.proofs.LineLaws.{lines-append, length-write_line, length-word_line, length-number_line}
 use Rattle.listing.proofs.LineLaws.{length-write_lines, length-word_lines, length-refused_line, length-pair_lines}
@@ -55,6 +58,28 @@ puts_kept a xs p = rw p (length-buffer a xs)
 pub puts_both : (a : Text) (xs ys : List ℕ) {b c : Text} → b ≡ with_bytes a xs → c ≡ with_bytes b ys
     → c ≡ with_bytes a (xs ++ ys)
 puts_both a xs ys p q = q ∙ rw p (with_bytes-twice a xs ys)
+
+-- the text is a report, put into a buffer that held `old`
+pub record Reported (report old : List ℕ) (text : Text) : Type 0 where
+  pub count : text.length ≡ length report
+  pub bytes : text.buffer.now ≡ over report old
+  pub prefix : IsPrefixLen text.length text.buffer.now
+
+pub reported : (buffer : MutBor (List ℕ)) (report : List ℕ) (n : ℕ) {start text : Text}
+    → start ≡ empty_text buffer → text ≡ with_bytes start report
+    → text.length ≤ start.length + n → n ≤ length buffer.now → Reported report buffer.now text
+unfolding with_bytes
+reported buffer report n {start} {text} s p h g =
+    let put : text ≡ with_bytes (empty_text buffer) report = rw s at p in
+    let count : text.length ≡ length report = rw put (zero-add (length report)) in
+    let long : text.length ≤ length buffer.now = omega (arith, ap (λ (t : Text). t.length) s) in
+    let fits : text.length ≤ length text.buffer.now =
+    omega (arith, puts_kept (empty_text buffer) report put) in
+    record {
+      count = count;
+      bytes = rw put (sets_over buffer.now report (omega (arith, count)));
+      prefix = (fits, sym (length-take-le text.length text.buffer.now fits));
+    }
 
 pub ruleset put_rules = (
   same_buffer,

@@ -4,9 +4,10 @@ use native.Mathlib.Nat.{add-mod, mod-mod, mod-add-mod, add-mod-mod, add-mul-mod_
 use lib.IntN.{sub_ℕ}
 use lib.Pow.{field, mod-mod-pow}
 use lib.Signed.{mag}
+use Rattle.std.proofs.lemmas.Nat.{mul-mod, mul-mod_first}
 use Rattle.lowbits.specs.Bits.{floor_bits, low_bits}
 use Rattle.lowbits.proofs.Halves.{low-split, cross}
-use Rattle.lowbits.proofs.Laws.{low-lt, low-add, low-mul, low-low, low_floor, mul-mod, mul_mod_left}
+use Rattle.lowbits.proofs.Laws.{low-lt, low-add, low-mul, low-low, low_floor}
 use Rattle.products.specs.Inside.{number, held}
 
 -- ---- offset binary
@@ -95,7 +96,7 @@ middle_wrapped u m l f =
 gather : (p q k n : ℕ) → (p * k + q) % n ≡ ((p % n) * k + q % n) % n
 gather p q k n =
     add-mod (p * k) q n
-    ∙ ap₂ (λ (i j : ℕ). (i + j) % n) (mul_mod_left p k n) (sym (mod-mod q n))
+    ∙ ap₂ (λ (i j : ℕ). (i + j) % n) (sym (mul-mod_first p k n)) (sym (mod-mod q n))
     ∙ sym (add-mod (p % n * k) (q % n) n)
 
 module _ (x a : ℤ) where
@@ -112,7 +113,7 @@ module _ (x a : ℤ) where
       let l = low_bits 16 a in
       low-mul 48 x a ∙ ap (λ (n : ℕ). (y * n) % 2 ^ 48) (low-split 48 16 a)
       ∙ ap (λ (n : ℕ). n % 2 ^ 48) (mul_comm y ((h * 2 ^ 16 + l) % 2 ^ 48))
-      ∙ sym (mul_mod_left (h * 2 ^ 16 + l) y (2 ^ 48))
+      ∙ mul-mod_first (h * 2 ^ 16 + l) y (2 ^ 48)
       ∙ ap (λ (n : ℕ). n % 2 ^ 48)
       (omega (arith, add-mul (h * 2 ^ 16) l y, mul_right_comm h (2 ^ 16) y, mul_comm h y, mul_comm l y))
       ∙ gather (y * h) (y * l) (2 ^ 16) (2 ^ 48)
@@ -151,11 +152,10 @@ module _ (u m l f : ℕ) where
       (ap (λ (n : ℕ). n / 2 ^ 12) (omega arith)
       ∙ add-mul-div_right l (u * 2 ^ 20 + m * 2 ^ 4 + f * (2 ^ 36 - 2 ^ 19)) (lit< tt) ∙ omega arith)
 
-  -- what the code makes of the parts: r, to which f * 2 ^ 19 wraps back
-  pub rounds : (r : ℕ)
-      → (r + (f * 2 ^ 19) % 2 ^ 32) % 2 ^ 32 ≡ ((u * 2 ^ 20) % 2 ^ 32 + (m * 2 ^ 4) % 2 ^ 32 + l / 2 ^ 12) % 2 ^ 32
-      → r % 2 ^ 32 ≡ held u m l f / 2 ^ 12 % 2 ^ 32
-  rounds r e =
+  -- what the code makes of the parts: their sum s, less f * 2 ^ 19
+  pub rounds : (s : ℕ) → s ≡ ((u * 2 ^ 20) % 2 ^ 32 + (m * 2 ^ 4) % 2 ^ 32 + l / 2 ^ 12) % 2 ^ 32
+      → (s + (2 ^ 32 - (f * 2 ^ 19) % 2 ^ 32)) % 2 ^ 32 % 2 ^ 32 ≡ held u m l f / 2 ^ 12 % 2 ^ 32
+  rounds s parts =
       sym (add-mul-mod_self_right r (f * 2 ^ 4) (2 ^ 32))
       ∙ ap (λ (n : ℕ). n % 2 ^ 32) (omega arith)
       ∙ sym (back r (f * 2 ^ 19) g)
@@ -165,6 +165,13 @@ module _ (u m l f : ℕ) where
     where
       g : ℕ
       g = f * (2 ^ 36 - 2 ^ 19)
+
+      r : ℕ
+      r = (s + (2 ^ 32 - (f * 2 ^ 19) % 2 ^ 32)) % 2 ^ 32
+
+      -- f * 2 ^ 19 wraps r back
+      e : (r + (f * 2 ^ 19) % 2 ^ 32) % 2 ^ 32 ≡ ((u * 2 ^ 20) % 2 ^ 32 + (m * 2 ^ 4) % 2 ^ 32 + l / 2 ^ 12) % 2 ^ 32
+      e = omega (arith, parts)
 
       back : (i j k : ℕ) → ((i + j % 2 ^ 32) % 2 ^ 32 + k) % 2 ^ 32 ≡ (i + j + k) % 2 ^ 32
       back i j k = simp (mod-add-mod, add-mod-mod)

@@ -7,7 +7,6 @@ ghost use Rattle.lowbits.specs.Bits.{floor_bits, low_bits, signed_low};
 ghost use Rattle.products.specs.Inside.{number, sum_of};
 
 use lowbits::{bits32, signed32};
-use std::num::{wrapping_add_u32, wrapping_sub_u32};
 
 // A sum of products in parts: what counts from bit 32 on, from bit 16 on and from bit 0 on, and the sum of the factors
 // that are in offset binary.
@@ -23,20 +22,20 @@ pub struct Sum {
 pub fn offset(a: i32) -> u32
     ensures { number result ≡ a }
 {
-    wrapping_add_u32(bits32(a), 0x8000_0000)
+    bits32(a).wrapping_add(0x8000_0000)
 }
 
 // The halves of a number without a sign.
 fn high_half(a: u32) -> u16
     ensures { result ≡ a / 0x1_0000 }
 {
-    (a / 0x1_0000) as u16
+    (a >> 16) as u16
 }
 
 fn low_half(a: u32) -> u16
     ensures { result ≡ a % 0x1_0000 }
 {
-    (a % 0x1_0000) as u16
+    (a & 0xffff) as u16
 }
 
 // The product of two halves without a sign.
@@ -74,7 +73,7 @@ fn half_products(x: u32, a: u32) -> Products
 fn add3(a: u32, b: u32, c: u32) -> u32
     ensures { result ≡ (a + b + c) % 2 ^ 32 }
 {
-    wrapping_add_u32(wrapping_add_u32(a, b), c)
+    a.wrapping_add(b).wrapping_add(c)
 }
 
 // The sum of no products.
@@ -98,9 +97,9 @@ pub fn plus_product(s: Sum, x: u32, a: u32) -> Sum
 {
     let p = half_products(x, a);
     Sum {
-        upper: wrapping_add_u32(s.upper, p.upper),
-        middle: wrapping_add_u32(add3(s.middle, p.left, p.right), p.lower / 0x1_0000),
-        lower: s.lower + p.lower % 0x1_0000,
+        upper: s.upper.wrapping_add(p.upper),
+        middle: add3(s.middle, p.left, p.right).wrapping_add(high_half(p.lower) as u32),
+        lower: s.lower + low_half(p.lower) as u32,
         factors: add3(s.factors, x, a),
     }
 }
@@ -115,7 +114,7 @@ pub fn one_product(x: u32, a: u32) -> Sum
         upper: 0,
         middle: add3(p.upper << 16, p.left, p.right),
         lower: p.lower,
-        factors: wrapping_add_u32(x, a),
+        factors: x.wrapping_add(a),
     }
 }
 
@@ -150,10 +149,9 @@ pub fn plus_short(s: Sum, x: i16, a: i32) -> Sum
     let h = short_product(x, from_bit_16(a));
     let l = short_product(x, below_bit_16(a) as i32);
     Sum {
-        upper: s.upper,
         middle: add3(s.middle, bits32(h), bits32(from_bit_16(l))),
         lower: s.lower + below_bit_16(l) as u32,
-        factors: s.factors,
+        ..s
     }
 }
 
@@ -161,13 +159,13 @@ pub fn plus_short(s: Sum, x: i16, a: i32) -> Sum
 pub fn rounded_sum(s: Sum) -> i32
     ensures { result ≡ signed_low 32 (pos (sum_of s / 4096)) }
 {
-    let u = add3(s.upper << 20, s.middle << 4, s.lower / 4096);
-    signed32(wrapping_sub_u32(u, s.factors << 19))
+    let u = add3(s.upper << 20, s.middle << 4, s.lower >> 12);
+    signed32(u.wrapping_sub(s.factors << 19))
 }
 
 // The rounded sum and a number more, its low 32 bits as a signed number.
 pub fn rounded_plus(s: Sum, d: i32) -> i32
     ensures { result ≡ signed_low 32 (pos (sum_of s / 4096) +ℤ d) }
 {
-    signed32(wrapping_add_u32(bits32(rounded_sum(s)), bits32(d)))
+    rounded_sum(s).wrapping_add(d)
 }

@@ -10,6 +10,9 @@ use mir.Val.{SFits}
 use Rattle.std.specs.Fmt.{signed_decimal}
 use Rattle.listing.specs.Text.{ascii, decimal, lines_of}
 use Rattle.listing.proofs.NumberLaws.{length-decimal, decimal-written}
+use Rattle.listing.specs.declared.Text.{Text}
+use Rattle.listing.specs.Buffer.{with_bytes}
+use Rattle.listing.proofs.PutLaws.{length-with_bytes}
 use Rattle.readout.specs.Numbers.{signed_text, spaced_number, spaced, numbers_line}
 
 -- what `itoa` makes of a signed number
@@ -46,3 +49,9 @@ length-numbers_line name zs =
       length-append name (spaced zs),
       length-spaced zs,
     )
+
+-- how far such a line reaches
+pub numbers_line_end : (a : Text) (name : List ℕ) (zs : List ℤ) {b : Text} → b ≡ with_bytes a (numbers_line name zs)
+    → b.length ≤ a.length + (length name + 12 * length zs + 1)
+numbers_line_end a name zs p =
+    rw p (omega (arith, length-with_bytes a (numbers_line name zs), length-numbers_line name zs))

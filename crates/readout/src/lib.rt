@@ -13,14 +13,12 @@ ghost use Rattle.readout.specs.Readout.{flag, levels_line, attributes_line, posi
 ghost use Rattle.readout.specs.Readout.{geometry_text, pending_line, matrices_text, vertex_line, polygon_line};
 ghost use Rattle.readout.specs.Readout.{vertex_lines, waiting_text, polygon_lines, registers_text, lists_text, machine_text};
 
-use commands::parameter_table;
 use listing::Text;
 use matrix::clip_matrix;
 use polygons::POLYGON_WIDTH;
 use registers::status_word;
 use state::{
     Coordinates, Engine, Geometry, OpenList, Registers, Stream, Transform, VERTEX_WIDTH, Waiting,
-    is_packed_pending, list_of,
 };
 
 // Every function here puts its text behind that of `text`. The public one is for the crates above, which have a buffer
@@ -96,7 +94,7 @@ fn put_transform(text: &mut Text, t: &Transform)
     ensures { text.new ≡ with_bytes text.old (transform_text t.now) }
 {
     text.put(b"status ");
-    text.put_word_line(status_word(*t));
+    text.put_word_line(status_word(t));
     text.put_number_line(b"mode ", t.mode);
     put_levels(text, t.pair.level, t.projection.level, t.texture.level);
 }
@@ -149,7 +147,7 @@ fn put_geometry(text: &mut Text, g: &Geometry)
     text.put_number_line(b"colour ", g.colour);
     put_attributes(text, g.given, g.attributes);
     put_position(text, g.position);
-    put_list(text, list_of(g.waiting.list));
+    put_list(text, OpenList::from(g.waiting.list));
 }
 
 // Whether a command is pending.
@@ -159,8 +157,7 @@ fn put_pending(text: &mut Text, s: &Stream)
     requires room { HasRoom text.old 19 }
     ensures { text.new ≡ with_bytes text.old (pending_line (pending_of s.now)) }
 {
-    let table = parameter_table();
-    let is_pending = is_packed_pending(&table, *s) | (s.port != 0);
+    let is_pending = s.is_packed_pending() | (s.port != 0);
     put_flag_line(text, b"pending ", is_pending);
 }
 

@@ -17,18 +17,12 @@ use terminal::{input_buffer, read_full};
 fn argument(rt: &impl Env, i: usize, buffer: &mut [u8]) -> usize
     ensures { result ≤ length buffer.new }
 {
-    match rt.arg(i, buffer) {
-        Ok(length) => length,
-        Err(_) => 0,
-    }
+    rt.arg(i, buffer).unwrap_or(0)
 }
 
 // Whether there is an argument i.
 fn is_given(rt: &impl Env, i: usize) -> bool {
-    match rt.arg(i, &mut []) {
-        Err(FillError::NotPresent) => false,
-        _ => true,
-    }
+    !matches!(rt.arg(i, &mut []), Err(FillError::NotPresent))
 }
 
 // What the first argument names; neither, where there are more than three.

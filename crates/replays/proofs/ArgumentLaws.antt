@@ -1,14 +1,16 @@
 -- Two texts compared byte by byte, and a room read digit by digit.
 use mathlib.Core.Bool.{Bool, true, false, false≢true, cond, ◌&&◌}
 use mathlib.Core.List.{List, [], ◌∷◌}
-use mathlib.Core.Path.{◌≡◌, refl, sym}
+use mathlib.Core.Path.{◌≡◌, refl, sym, ◌∙◌}
 use Prim.Native.Nat.{ℕ, suc, ◌+◌, ◌*◌, ◌-◌, ◌^◌, ◌≤◌, ◌<◌}
-use native.Mathlib.Nat.{pow-suc, pow-le-pow_right}
+use native.Mathlib.Nat.{pow-suc}
 use native.Mathlib.Numerals.{add-one}
 use native.Mathlib.Omega.{arith}
-use lib.Dec.{eqb, leb}
+use lib.Dec.{eqb}
 use lib.ListN.{length, get_or, drop, drop_of_length-le}
-use borrow.Author.Tests.{eqb-true, eq-eqb, leb-true, le-leb, lt-leb}
+use borrow.Author.Tests.{le-leb, lt-leb}
+use Rattle.std.specs.Char.{is_ascii_digit}
+use Rattle.std.specs.Cmp.Lexicographic.{pointwise}
 use Rattle.words.proofs.Over.{drop-next}
 use Rattle.replays.specs.Arguments.{same_bytes, is_digit, all_digits, is_decimal, digits_from, room_of}
 
@@ -16,32 +18,21 @@ both_true : (s t : Bool) → (s && t) ≡ true → (s ≡ true) × (t ≡ true)
 both_true true t e = (refl, e)
 both_true false t e = absurd (false≢true e)
 
-same_itself : (xs : List ℕ) → same_bytes xs xs ≡ true
-same_itself [] = refl
-same_itself (x ∷ xs) = rw (eq-eqb x x refl) (same_itself xs)
+-- what `==` answers of two texts
+same-bytes : (xs ys : List ℕ) → pointwise eqb xs ys ≡ same_bytes xs ys
+same-bytes [] [] = refl
+same-bytes [] (y ∷ ys) = refl
+same-bytes (x ∷ xs) [] = refl
+same-bytes (x ∷ xs) (y ∷ ys) = rw (same-bytes xs ys)
 
-same_equal : (xs ys : List ℕ) → same_bytes xs ys ≡ true → xs ≡ ys
-same_equal [] [] e = refl
-same_equal [] (y ∷ ys) e = absurd (false≢true e)
-same_equal (x ∷ xs) [] e = absurd (false≢true e)
-same_equal (x ∷ xs) (y ∷ ys) e =
-    let both = both_true (eqb x y) (same_bytes xs ys) e in
-    rw (eqb-true x y both.0, same_equal xs ys both.1)
+-- a test by `==` of a text and a slice that holds ys
+pub same-test : (xs ys : List ℕ) {zs : List ℕ} {t : Bool} → zs ≡ ys → t ≡ pointwise eqb xs zs → same_bytes xs ys ≡ t
+same-test xs ys e f = sym (rw e at f ∙ same-bytes xs ys)
 
--- a test that is true exactly of equal texts
-pub same_test : (t : Bool) (xs ys : List ℕ) → (t ≡ true → xs ≡ ys) × (xs ≡ ys → t ≡ true) → t ≡ same_bytes xs ys
-same_test true xs ys h = rw (h.0 refl) (sym (same_itself ys))
-same_test false xs ys h = by (same_bytes xs ys) refl
-  where
-    by : (s : Bool) → same_bytes xs ys ≡ s → false ≡ s
-    by true e = h.1 (same_equal xs ys e)
-    by false e = refl
-
-pub digit_bounds : (d : ℕ) → is_digit d ≡ true → (48 ≤ d) × (d ≤ 57)
+-- what `is_ascii_digit` answers
+pub digit-test : (d : ℕ) {t : Bool} → t ≡ is_ascii_digit d → is_digit d ≡ t
 unfolding is_digit
-digit_bounds d e =
-    let both = both_true (leb 48 d) (leb d 57) e in
-    (leb-true 48 d both.0, leb-true d 57 both.1)
+digit-test d e = sym e
 
 -- the room that a text gives where the digits read stand for n and the bytes ds are left
 abbrev pub room_from : ℕ → List ℕ → ℕ
@@ -75,7 +66,3 @@ module _ (text : List ℕ) where
 -- i digits and one more stand for a number below 10 ^ (i + 1)
 pub room_bound : (n d i : ℕ) → d ≤ 57 → n < 10 ^ i → 10 * n + (d - 48) < 10 ^ (i + 1)
 room_bound n d i h g = rw (add-one i) (omega (arith, pow-suc 10 i))
-
--- fewer than nine digits
-pub room_small : (n i : ℕ) → i < 9 → n < 10 ^ i → n < 10 ^ 8
-room_small n i h g = omega (arith, pow-le-pow_right {n = 10} (omega arith) {i = i} {j = 8} (omega arith))

@@ -1,6 +1,6 @@
 -- A run keeps what its report asks: the engine sound, the buffers long enough, no more taken than there is.
-use mathlib.Core.Bool.{Bool, true, false}
-use mathlib.Core.List.{List}
+use mathlib.Core.Bool.{Bool, true, false, cond}
+use mathlib.Core.List.{List, []}
 use mathlib.Core.Path.{◌≡◌, refl, sym, ap, ◌∙◌}
 use Prim.Native.Nat.{ℕ, ◌*◌, ◌≤◌}
 use native.Mathlib.Omega.{arith}
@@ -8,7 +8,6 @@ use lib.Dec.{eqb}
 use lib.IntN.{ℤ}
 use lib.ListN.{length}
 use borrow.Author.Tests.{eq-eqb, ne_eqb, le-leb}
-use Rattle.io.specs.Counts.{IsPrefixLen}
 use Rattle.words.specs.Words.{words_of}
 use Rattle.stream.specs.Call.{Machine}
 use Rattle.stream.specs.Read.{writes}
@@ -29,9 +28,13 @@ use Rattle.polygons.specs.Buffers.{Buffered, buffered, long_enough}
 use Rattle.execute.specs.Call.{engine_rules, machine_of, fed_of, feed_as}
 use Rattle.execute.proofs.CallKeeps.{EngineKept, kept-by-word, kept-by-port, list-kept}
 use Rattle.listing.specs.Text.{refused_line}
-use Rattle.listing.specs.Buffer.{Puts}
-use Rattle.listing.proofs.PutLaws.{reported}
-use Rattle.replays.specs.Replay.{refusal_text, ran, replay, Reports}
+use Rattle.listing.proofs.LineLaws.{length-refused_line}
+use Rattle.listing.proofs.PutLaws.{length-with_bytes}
+use Rattle.readout.proofs.ReadoutLaws.{text_rules}
+use Rattle.listing.specs.declared.Text.{Text}
+use Rattle.listing.specs.Buffer.{with_bytes}
+use Rattle.replays.specs.Replay.{refusal_text, ran, replay}
+use Rattle.replays.specs.Inside.{PutsReport}
 
 pub run-taken : (log : Bool) (m : Machine (Buffered Core)) (ws : List ℕ) → (feed_as log m ws).taken ≤ length ws
 run-taken true m ws = omega (arith, list-within engine_rules port_step m (writes ws), length-writes ws)
@@ -78,14 +81,21 @@ run-kept false e vertices polygons h ws r vs ps told =
 
 -- ---- the line of a refusal
 
-pub no_refusal : (number place at : ℕ) (text : List ℕ) → number ≡ 0
-    → Puts (refusal_text number place) at at text text
+pub no_refusal : (number place : ℕ) → number ≡ 0 → refusal_text number place ≡ []
 unfolding refusal_text
-no_refusal number place at text z = rw (eq-eqb number 0 z) (record { next-is = omega arith; text-is = refl })
+no_refusal number place z = rw (eq-eqb number 0 z)
 
 pub one-refusal : (number place : ℕ) → (number ≡ 0 → ⊥) → refused_line number place ≡ refusal_text number place
 unfolding refusal_text
 one-refusal number place d = rw (ne_eqb number 0 d)
+
+pub length-refusal_text : (number place : ℕ) → length (refusal_text number place) ≤ 30
+unfolding refusal_text
+length-refusal_text number place = by (eqb number 0)
+  where
+    by : (t : Bool) → length (cond t [] (refused_line number place)) ≤ 30
+    by true = omega arith
+    by false = length-refused_line number place
 
 -- ---- the report
 
@@ -124,18 +134,22 @@ module _ (log : Bool) (v p : ℕ) (input : List ℕ) (vertices : List ℤ) (poly
     unfolding replay
     replay-ran t ws e = rw (started, t, told, e)
 
--- a report that was put at the start of a buffer
-pub reports : {b c : Buffered (List ℕ)} {r : ℕ} {old new : List ℕ} {vertices : List ℤ} {polygons : List ℕ} → b ≡ c
-    → Puts b.part 0 r old new → r ≤ length old → vertices ≡ b.vertices → polygons ≡ b.polygons
-    → Reports c r old new vertices polygons × IsPrefixLen r new
-reports {b} {c} {r} {old} e p h vs ps =
-    let within : length b.part ≤ length old = omega (arith, p.next-is, h) in
-    let put = reported (ap (λ (x : Buffered (List ℕ)). x.part) e) p within in (
-      record {
-        count = put.0;
-        text = put.1.0;
-        vertices-are = vs ∙ ap (λ (x : Buffered (List ℕ)). x.vertices) e;
-        polygons-are = ps ∙ ap (λ (x : Buffered (List ℕ)). x.polygons) e;
-      },
-      put.1.1,
-    )
+-- a report that is the same was put
+pub put-as : {b c : Buffered (List ℕ)} {old text : Text} {vertices : List ℤ} {polygons : List ℕ} → b ≡ c
+    → PutsReport b old text vertices polygons → PutsReport c old text vertices polygons
+put-as {b} {c} e p = rw (← e) p
+
+-- the line of a refusal was put, and the buffers are as they were
+pub refusal-put : (number : ℕ) {old text : Text} {vertices : List ℤ} {polygons : List ℕ}
+    → text ≡ with_bytes old (refused_line number 0)
+    → PutsReport (buffered (refused_line number 0) vertices polygons) old text vertices polygons
+refusal-put number {old} p =
+    let line = refused_line number 0 in
+    record {
+      text-is = p;
+      within = rw p (omega (arith, length-with_bytes old line, length-refused_line number 0));
+      vertices-are = refl;
+      polygons-are = refl;
+    }
+
+pub ruleset report_rules = (text_rules, length-refusal_text)

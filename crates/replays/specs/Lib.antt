@@ -1,2 +1,3 @@
 pub mod Arguments
 pub mod Replay
+pub mod Inside

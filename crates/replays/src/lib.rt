@@ -1,6 +1,6 @@
 // What the program `replay` is told by its arguments (`replay list|log [VERTICES POLYGONS]`), and what it writes: the
 // run of a packed list or of a log on a started engine.
-#![tactic(auto)]
+#![tactic(auto, using(crate::proofs::ReplayLaws::report_rules, std::proofs::lemmas::Grind::common_steps))]
 
 ghost use Rattle.std.specs.Prelude.{◌≡◌, true, ◌+◌, ◌≤◌, length};
 ghost use Rattle.stream.specs.Input.{most_words};
@@ -8,19 +8,20 @@ ghost use Rattle.io.specs.Counts.{IsPrefixLen as Counted};
 ghost use Rattle.state.specs.Sound.{sound};
 ghost use Rattle.polygons.specs.Buffers.{long_enough};
 ghost use Rattle.execute.specs.Call.{machine_of, fed_of, feed_as};
-ghost use Rattle.listing.specs.Buffer.{Puts};
-ghost use Rattle.replays.specs.Arguments.{is_digit, source_of, room_of};
-ghost use Rattle.replays.specs.Replay.{refusal_text, fed_text, replay, replay_as, Reports};
+ghost use Rattle.listing.specs.Buffer.{HasRoom, with_bytes};
+ghost use Rattle.replays.specs.Arguments.{source_of, room_of};
+ghost use Rattle.replays.specs.Replay.{refusal_text, fed_text, ran, replay, replay_as, Reports};
+ghost use Rattle.replays.specs.Inside.{PutsReport};
 
 use engine::feed_as;
-use listing::{put_bytes, put_number_line, put_refused};
+use listing::Text;
 use readout::put_engine;
 use state::{Counts, Engine, ListAnswer};
 use stream::{is_input, longest_list};
 use words::read_words;
 
 // What standard input holds: packed words, or a log of port writes.
-#[derive(Clone, Copy)]
+#[derive(Clone, Copy, Debug, PartialEq, Eq)]
 pub enum Source {
     List,
     Log,
@@ -31,42 +32,30 @@ pub enum Source {
 pub fn source_of(name: &[u8]) -> Source
     ensures { result ≡ source_of name.now }
 {
-    if check::same(name, b"list") {
-        return Source::List;
+    if name == b"list".as_slice() {
+        Source::List
+    } else if name == b"log".as_slice() {
+        Source::Log
+    } else {
+        Source::Neither
     }
-    if check::same(name, b"log") {
-        return Source::Log;
-    }
-    Source::Neither
 }
 
-// Whether a byte is a decimal digit.
-fn is_digit(byte: u8) -> bool
-    ensures { result ≡ is_digit byte }
-{
-    if byte < b'0' {
-        return false;
-    }
-    byte <= b'9'
-}
-
-// The room that an argument gives: one to nine decimal digits; 0, which is no room, for any other text.
+// The room that an argument gives: one to nine decimal digits; 0, which is no room, for any other text. `str::parse`
+// takes a sign too.
 pub fn room_of(digits: &[u8]) -> usize
     ensures { result ≡ room_of digits.now }
 {
-    if 9 < digits.len() {
+    if digits.len() > 9 {
         return 0;
     }
     // no digit leaves the 0
-    let mut room: usize = 0;
-    let mut i = 0;
-    while i < digits.len() {
-        let byte = digits[i];
-        if !is_digit(byte) {
+    let mut room = 0;
+    for digit in digits {
+        if !digit.is_ascii_digit() {
             return 0;
         }
-        room = 10 * room + (byte - b'0') as usize;
-        i += 1;
+        room = 10 * room + usize::from(*digit - b'0');
     }
     room
 }
@@ -80,78 +69,70 @@ pub fn report_buffer() -> [u8; 433649]
 }
 
 // The line of a refusal, where there was one.
-fn put_refusal(text: &mut [u8], at: usize, number: u32, place: u32) -> usize
-    requires { at + 30 ≤ length text.old }
-    ensures puts { Puts (refusal_text number place) at result text.old text.new }
-    ensures upper_bound { result ≤ at + 30 }
+fn put_refusal(text: &mut Text, number: u32, place: u32)
+    requires { HasRoom text.old 30 }
+    ensures { text.new ≡ with_bytes text.old (refusal_text number place) }
 {
-    if number == 0 {
-        return at;
+    if number != 0 {
+        text.put_refused(number, place);
     }
-    put_refused(text, at, number, place)
 }
 
 // What was fed, and the engine at its end.
-fn put_fed(text: &mut [u8], fed: ListAnswer, vertices: &[i32], polygons: &[u32]) -> usize
-    requires sound { (sound fed.engine ≡ true) × (fed.taken ≤ most_words) }
-    requires buffers_long { long_enough fed.engine.core.registers.geometry.rooms (length vertices.now)
+#[tactic(auto, using(crate::proofs::ReplayLaws::report_rules), unfolding(crate::specs::Replay::fed_text))]
+fn put_fed(text: &mut Text, fed: &ListAnswer, vertices: &[i32], polygons: &[u32])
+    requires sound { (sound fed.now.engine ≡ true) × (fed.now.taken ≤ most_words) }
+    requires buffers_long { long_enough fed.now.engine.core.registers.geometry.rooms (length vertices.now)
         (length polygons.now) ≡ true }
-    requires in_bounds { 433649 ≤ length text.old }
-    ensures puts { Puts (fed_text (fed_of fed vertices.now polygons.now)) 0 result
-        text.old text.new }
-    ensures upper_bound { result ≤ 433649 }
+    requires room { HasRoom text.old 433649 }
+    ensures puts { text.new ≡ with_bytes text.old (fed_text (fed_of fed.now vertices.now polygons.now)) }
+    ensures within { text.new.length ≤ text.old.length + 433649 }
 {
     let taken = fed.taken as u32;
-    let refusal = put_number_line(text, 0, b"taken ", taken);
-    let engine = put_refusal(text, refusal, fed.number, taken);
-    put_engine(text, engine, fed.engine, vertices, polygons)
+    text.put_number_line(b"taken ", taken);
+    put_refusal(text, fed.number, taken);
+    put_engine(text, &fed.engine, vertices, polygons);
 }
 
 // A run, and its report.
 fn put_run(
-    text: &mut [u8],
+    text: &mut Text,
     log: bool,
     e: Engine,
     words: &[u32],
     vertices: &mut [i32],
     polygons: &mut [u32],
-) -> usize
+)
     requires sound { (sound e ≡ true) × (length words.now ≤ most_words) }
     requires buffers_long { long_enough e.core.registers.geometry.rooms (length vertices.old) (length polygons.old)
         ≡ true }
-    requires in_bounds { 433649 ≤ length text.old }
-    ensures puts { Puts (fed_text (feed_as log (machine_of e vertices.old polygons.old)
-        words.now)) 0 result text.old text.new }
-    ensures vertices_after { vertices.new
-        ≡ (feed_as log (machine_of e vertices.old polygons.old) words.now).left.state.vertices }
-    ensures polygons_after { polygons.new
-        ≡ (feed_as log (machine_of e vertices.old polygons.old) words.now).left.state.polygons }
-    ensures upper_bound { result ≤ 433649 }
+    requires room { HasRoom text.old 433649 }
+    ensures { PutsReport (ran (feed_as log (machine_of e vertices.old polygons.old) words.now))
+        text.old text.new vertices.new polygons.new }
 {
     let fed = feed_as(log, e, words, &mut *vertices, &mut *polygons);
-    put_fed(text, fed, vertices, polygons)
+    put_fed(text, &fed, vertices, polygons);
 }
 
 // The run of an input on an engine that is started with these rooms, and its report.
 fn put_replay(
-    text: &mut [u8; 433649],
+    text: &mut Text,
     log: bool,
     rooms: Counts,
     input: &[u8],
     vertices: &mut [i32; 30720],
     polygons: &mut [u32; 6144],
-) -> usize
-    ensures reports { Reports (replay log rooms.vertices rooms.polygons input.now
-        vertices.old polygons.old) result
+)
+    requires { HasRoom text.old 433649 }
+    ensures { PutsReport (replay log rooms.vertices rooms.polygons input.now vertices.old polygons.old)
         text.old text.new vertices.new polygons.new }
-    ensures counted { Counted result text.new }
 {
     let started = Engine::start(rooms.vertices, rooms.polygons);
     if started.number != 0 {
-        return put_refused(text, 0, 11, 0);
+        return text.put_refused(11, 0);
     }
     if !is_input(log, input.len()) {
-        return put_refused(text, 0, 7, 0);
+        return text.put_refused(7, 0);
     }
     let mut words = longest_list();
     read_words(input, &mut words);
@@ -162,7 +143,27 @@ fn put_replay(
         &words[..input.len() / 4],
         vertices,
         polygons,
-    )
+    );
+}
+
+// The report of a source.
+fn put_report(
+    text: &mut Text,
+    source: Source,
+    rooms: Counts,
+    input: &[u8],
+    vertices: &mut [i32; 30720],
+    polygons: &mut [u32; 6144],
+)
+    requires { HasRoom text.old 433649 }
+    ensures { PutsReport (replay_as source rooms.vertices rooms.polygons input.now vertices.old polygons.old)
+        text.old text.new vertices.new polygons.new }
+{
+    match source {
+        Source::List => put_replay(text, false, rooms, input, vertices, polygons),
+        Source::Log => put_replay(text, true, rooms, input, vertices, polygons),
+        Source::Neither => text.put(b"usage: replay list|log [VERTICES POLYGONS]\n"),
+    }
 }
 
 // What the program `replay` writes, from the buffer's first byte on; how many bytes that is.
@@ -179,9 +180,7 @@ pub fn replay_report(
         text.old text.new vertices.new polygons.new }
     ensures counted { Counted result text.new }
 {
-    match source {
-        Source::List => put_replay(text, false, rooms, input, vertices, polygons),
-        Source::Log => put_replay(text, true, rooms, input, vertices, polygons),
-        Source::Neither => put_bytes(text, 0, b"usage: replay list|log [VERTICES POLYGONS]\n"),
-    }
+    let mut report = Text::new(text);
+    put_report(&mut report, source, rooms, input, vertices, polygons);
+    report.length
 }

@@ -1,46 +1,44 @@
 // What the programs write for what they read.
-#![tactic(auto)]
+#![tactic(auto, using(listing::proofs::PutLaws::put_rules, std::proofs::lemmas::Grind::common_steps))]
 
-ghost use Rattle.std.specs.Prelude.{◌≡◌, ◌≤◌, length};
+ghost use Rattle.std.specs.Prelude.{◌≡◌, ◌+◌, ◌≤◌, length};
 ghost use Rattle.io.specs.Counts.{IsPrefixLen};
 ghost use Rattle.words.specs.Words.{over};
 ghost use Rattle.conversions.specs.Convert.{longest_output};
-ghost use Rattle.listing.specs.Buffer.{Puts};
+ghost use Rattle.listing.specs.Buffer.{HasRoom, with_bytes};
 ghost use Rattle.reports.specs.Unpack.{unpack_report};
 ghost use Rattle.reports.specs.Pack.{pack_report};
 ghost use Rattle.reports.specs.Inside.{output_text, longest_text, report_of};
 
 use conversions::convert_bytes;
-use listing::{put_ports, put_refused, put_words};
-use stream::{longest_list, longest_log};
+use listing::Text;
+use stream::{Refused, longest_list, longest_log};
 
 // The words of an output: those of a list, where `log` holds, since a log was packed; else those of a log.
-fn put_output(text: &mut [u8], log: bool, words: &[u32]) -> usize
+fn put_output(text: &mut Text, log: bool, words: &[u32])
     requires words_len_bound { length words.now ≤ longest_output log }
-    requires log_in_bounds { longest_text log ≤ length text.old }
-    ensures { Puts (output_text log words.now) 0 result text.old text.new }
+    requires room { HasRoom text.old (longest_text log) }
+    ensures { text.new ≡ with_bytes text.old (output_text log words.now) }
 {
     if log {
-        return put_words(text, 0, words);
+        text.put_words(words);
+    } else {
+        text.put_ports(words);
     }
-    put_ports(text, 0, words)
 }
 
 // The report of an input, a log to be packed where `log` holds, else a list to be unpacked; `words` is lent for the
 // output.
-fn put_report(text: &mut [u8], log: bool, input: &[u8], words: &mut [u32]) -> usize
+fn put_report(text: &mut Text, log: bool, input: &[u8], words: &mut [u32])
     requires words_len { length words.old ≡ longest_output log }
-    requires log_in_bounds { longest_text log ≤ length text.old }
-    ensures value { result ≡ length (report_of log input.now) }
-    ensures text_after { text.new ≡ over (report_of log input.now) text.old }
-    ensures prefix_len { IsPrefixLen result text.new }
+    requires room { HasRoom text.old (longest_text log) }
+    ensures puts { text.new ≡ with_bytes text.old (report_of log input.now) }
+    ensures within { text.new.length ≤ text.old.length + longest_text log }
 {
-    let answer = convert_bytes(log, input, &mut *words);
-    if answer.number != 0 {
-        return put_refused(text, 0, answer.number, answer.place);
+    match convert_bytes(log, input, &mut *words) {
+        Err(Refused { refusal, place }) => text.put_refused(refusal.into(), place),
+        Ok(length) => put_output(text, log, &words[..length as usize]),
     }
-    let length = answer.length as usize;
-    put_output(text, log, &words[..length])
 }
 
 // Room for the longest report of a log: the first line, of at most 17 bytes, and 16,384 lines of 18. What it holds is
@@ -58,7 +56,9 @@ pub fn unpack_report(input: &[u8], text: &mut [u8; 294929]) -> usize
     ensures prefix_len { IsPrefixLen result text.new }
 {
     let mut log = longest_log();
-    put_report(text, false, input, &mut log)
+    let mut report = Text::new(text);
+    put_report(&mut report, false, input, &mut log);
+    report.length
 }
 
 // Room for the longest report of a packed list: the first line, of at most 17 bytes, and 8,192 lines of 9. What it
@@ -76,5 +76,7 @@ pub fn pack_report(input: &[u8], text: &mut [u8; 73745]) -> usize
     ensures prefix_len { IsPrefixLen result text.new }
 {
     let mut list = longest_list();
-    put_report(text, true, input, &mut list)
+    let mut report = Text::new(text);
+    put_report(&mut report, true, input, &mut list);
+    report.length
 }

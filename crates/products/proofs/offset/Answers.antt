@@ -7,5 +7,5 @@ use Rattle.products.proofs.offset.Goals as goal
 pub returns : goal.returns
 returns c =
     let bits = c.bits32.ensures ∙ ap (low_bits 32) (to_z-of_z c.ranges.a) in
-    ap number (c.wrapping_add_u32.ensures.value ∙ ap (λ (n : ℕ). (n + 2 ^ 31) % 2 ^ 32) bits)
+    ap (λ (n : ℕ). number ((n + 2 ^ 31) % 2 ^ 32)) bits
     ∙ from_bits c.args.a c.ranges.a.sfits

@@ -1,4 +1,4 @@
-use Rattle.std.proofs.Common.{◌∙◌}
+use Rattle.std.proofs.Common.{ℕ, ◌+◌, ◌%◌, ◌^◌, ap, ◌∙◌}
 use Rattle.products.specs.Inside.{held}
 use Rattle.products.proofs.Sums.{alone}
 use Rattle.products.proofs.one_product.Goals as goal
@@ -7,5 +7,5 @@ pub returns : goal.returns
 returns c =
     let v = c.args in
     let p = c.half_products-p.result in
-    (λ t. held 0 (c.add3.ensures t) p.lower (c.wrapping_add_u32.ensures.value t))
+    ap (λ (m : ℕ). held 0 m p.lower ((v.x + v.a) % 2 ^ 32)) c.add3.ensures
     ∙ alone v.x v.a p.upper p.left p.right p.lower c.half_products-p.ensures

@@ -1,4 +1,4 @@
-use Rattle.std.proofs.Common.{◌≡◌, ℕ, ◌+◌, ◌%◌, ◌^◌, ◌<◌, ◌≤◌, ℤ, pos, ◌*ℤ◌, nat_abs, sym, ap, ◌∙◌, subst, le_trans, arith, lit≤, to_z-of_z, w32, to_z}
+use Rattle.std.proofs.Common.{◌≡◌, ℕ, ◌+◌, ◌%◌, ◌^◌, ◌<◌, pos, ◌*ℤ◌, sym, ap, ◌∙◌, subst, arith, to_z-of_z, w32, to_z}
 use mir.Facts.{to_z_pos}
 use Rattle.lowbits.specs.Bits.{floor_bits, low_bits}
 use Rattle.lowbits.proofs.Laws.{low-lt}
@@ -19,20 +19,8 @@ module _ (c : After-below_bit_16) where
   below : c.below_bit_16.result < 2 ^ 16
   below = subst (λ (n : ℕ). n < 2 ^ 16) (sym lower-half) (low-lt 16 c.args.a)
 
-pub short_product-h-requires : goal.short_product-h-requires
-short_product-h-requires c =
-    subst (λ (z : ℤ). nat_abs z ≤ 0xffff) (sym (again w32 c.from_bit_16.result c.from_bit_16.type_inv))
-    (le_trans c.from_bit_16.ensures.1 (lit≤ tt))
-
-pub overflow_cast-below_bit_16 : goal.overflow_cast-below_bit_16
-overflow_cast-below_bit_16 c = record { sfits = let h = below c in omega arith }
-
-pub short_product-l-requires : goal.short_product-l-requires
-short_product-l-requires c =
-    let h = below c in subst (λ (z : ℤ). nat_abs z ≤ 0xffff) (sym (natural _ h)) (omega arith)
-
-pub returns : goal.returns
-returns c =
+pub returns-clause-result_value : goal.returns-clause-result_value
+returns-clause-result_value c =
     let v = c.args in
     let f = c.ranges in
     let s = v.s in
@@ -42,7 +30,7 @@ returns c =
     again w32 _ c.short_product-h.type_inv ∙ c.short_product-h.ensures ∙ (λ t. to_z-of_z f.x t *ℤ high t) in
     let lower =
     again w32 _ c.short_product-l.type_inv ∙ c.short_product-l.ensures
-    ∙ (λ t. to_z-of_z f.x t *ℤ (natural _ (below (goal.at.returns c).After-below_bit_16) ∙ ap pos (lower-half (goal.at.returns c).After-below_bit_16)) t) in
+    ∙ (λ t. to_z-of_z f.x t *ℤ (natural _ (below (goal.at.returns-clause-result_value c).After-below_bit_16) ∙ ap pos (lower-half (goal.at.returns-clause-result_value c).After-below_bit_16)) t) in
     let carried =
     again w32 _ c.from_bit_16-2.type_inv ∙ c.from_bit_16-2.ensures.0 ∙ ap (floor_bits 16) lower in
     let middle =
@@ -50,8 +38,5 @@ returns c =
     ∙ (λ t. (s.middle + (c.bits32.ensures ∙ ap (low_bits 32) upper) t
     + (c.bits32-2.ensures ∙ ap (low_bits 32) carried) t) % 2 ^ 32) in
     let low = c.below_bit_16-2.ensures ∙ ap (low_bits 16) lower in
-    let small = low-lt 16 (v.x *ℤ pos (low_bits 16 v.a)) in record {
-      result_value = (λ t. held s.upper (middle t) (s.lower + low t) s.factors)
-          ∙ plus-short v.x v.a s.upper s.middle s.lower s.factors;
-      lower_bound = omega (arith, low, small);
-    }
+    (λ t. held s.upper (middle t) (s.lower + low t) s.factors)
+    ∙ plus-short v.x v.a s.upper s.middle s.lower s.factors

@@ -10,5 +10,4 @@ returns c =
     let s = c.args.s in
     again w32 _ c.signed32.type_inv ∙ c.signed32.ensures
     ∙ ap (as_signed 32)
-    (rounds s.upper s.middle s.lower s.factors c.wrapping_sub_u32.result
-    (c.wrapping_sub_u32.ensures.value ∙ c.add3-u.ensures))
+    (rounds s.upper s.middle s.lower s.factors c.add3-u.result c.add3-u.ensures)

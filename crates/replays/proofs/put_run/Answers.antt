@@ -15,21 +15,21 @@ kept c =
     run-kept c.args.log c.args.e c.args.vertices.now c.args.polygons.now c.requires.sound.0 c.args.words.now
     c.feed_as-fed.result _ _ c.feed_as-fed.ensures.reply
 
-pub put_fed-requires : goal.put_fed-requires
-put_fed-requires c =
-    let k = kept (goal.at.put_fed-requires c).After-feed_as-fed in
-    record {
-      sound = (k.is-sound, omega (arith, k.taken, c.requires.sound.1));
-      buffers_long = k.long ∙ c.requires.buffers_long;
-      in_bounds = omega (arith, c.requires.in_bounds);
-    }
+pub put_fed-requires-clause-sound : goal.put_fed-requires-clause-sound
+put_fed-requires-clause-sound c =
+    let k = kept (goal.at.put_fed-requires-clause-sound c).After-feed_as-fed in
+    (k.is-sound, omega (arith, k.taken, c.requires.sound.1))
+
+pub put_fed-requires-clause-buffers_long : goal.put_fed-requires-clause-buffers_long
+put_fed-requires-clause-buffers_long c =
+    (kept (goal.at.put_fed-requires-clause-buffers_long c).After-feed_as-fed).long ∙ c.requires.buffers_long
 
 pub returns : goal.returns
 returns c =
     let told = c.feed_as-fed.ensures.reply in
     record {
-      puts = rw told at c.put_fed.ensures.puts;
-      vertices_after = ap (λ (f : Fed (Buffered Core)). f.left.state.vertices) told;
-      polygons_after = ap (λ (f : Fed (Buffered Core)). f.left.state.polygons) told;
-      upper_bound = c.put_fed.ensures.upper_bound;
+      text-is = rw told at c.put_fed.ensures.puts;
+      within = c.put_fed.ensures.within;
+      vertices-are = ap (λ (f : Fed (Buffered Core)). f.left.state.vertices) told;
+      polygons-are = ap (λ (f : Fed (Buffered Core)). f.left.state.polygons) told;
     }

@@ -1,28 +1,28 @@
 use Rattle.listing.specs.Text.{ascii}
 use Rattle.replays.specs.Arguments.{source_of}
-use Rattle.replays.proofs.ArgumentLaws.{same_test}
+use Rattle.replays.proofs.ArgumentLaws.{same-test}
 use Rattle.replays.proofs.source_of.Goals as goal
 
-pub returns-then-same : goal.returns-then-same
+pub returns-then-eq : goal.returns-then-eq
 unfolding source_of
-returns-then-same c = rw (← same_test _ _ (ascii "list") c.same.ensures, c.if-same.true)
+returns-then-eq c = rw (same-test _ (ascii "list") c.as_slice.ensures c.eq.ensures, c.if-eq.true)
 
-pub returns-then-same-2 : goal.returns-then-same-2
+pub returns-then-eq-2 : goal.returns-then-eq-2
 unfolding source_of
-returns-then-same-2 c =
+returns-then-eq-2 c =
     rw (
-      ← same_test _ _ (ascii "list") c.same.ensures,
-      c.if-same.false,
-      ← same_test _ _ (ascii "log") c.same-2.ensures,
-      c.if-same-2.true,
+      same-test _ (ascii "list") c.as_slice.ensures c.eq.ensures,
+      c.if-eq.false,
+      same-test _ (ascii "log") c.as_slice-else-eq.ensures c.eq-else-eq.ensures,
+      c.if-eq-2.true,
     )
 
-pub returns : goal.returns
+pub returns-else-eq-2 : goal.returns-else-eq-2
 unfolding source_of
-returns c =
+returns-else-eq-2 c =
     rw (
-      ← same_test _ _ (ascii "list") c.same.ensures,
-      c.if-same.false,
-      ← same_test _ _ (ascii "log") c.same-2.ensures,
-      c.if-same-2.false,
+      same-test _ (ascii "list") c.as_slice.ensures c.eq.ensures,
+      c.if-eq.false,
+      same-test _ (ascii "log") c.as_slice-else-eq.ensures c.eq-else-eq.ensures,
+      c.if-eq-2.false,
     )
