@@ -196,12 +196,12 @@ module _ {ws : List Write} {from : Places} {old : List ℕ} {next slot word end 
 
     -- the next command, of n parameters
     module _ (few : slot < 4) (n : ℕ) (k : n ≡ count (byte_at ws next)) where
-      b : Begins ws next n
+      b : Begins ws next (next + writes_for n) n
       b = rw k (read-begins ws next rest-is.more h rest-is.is)
 
       t : Taken ws from.next (next + writes_for n) (slot + 1) (p.size + n) (eqb n 0)
           (p.cs ++ command_from ws next n ∷ [])
-      t = taken_more p.taken few n b
+      t = taken_more p.taken few b
 
       m : More (p.cs ++ command_from ws next n ∷ []) (or_none (rest_commands from.next ws))
           (rest_commands (next + writes_for n) ws)

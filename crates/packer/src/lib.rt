@@ -7,21 +7,14 @@ ghost use Rattle.words.specs.Words.{over};
 ghost use Rattle.stream.specs.Read.{writes, log_commands};
 ghost use Rattle.stream.specs.Output.{answer_to, measured, Stores};
 ghost use Rattle.stream.specs.Pack.{packed_words, or_none, IsRead, pack as Pack·pack};
-ghost use Rattle.packer.specs.Inside.{writes_of, values, AtPort, Begins, Stops, SizedGroup};
+ghost use Rattle.packer.specs.Inside.{writes_of, values, Begins, Stops, SizedGroup};
 ghost use Rattle.packer.specs.Inside.{GroupFits, PutGroup};
 
 use commands::{command_at, command_of_port, parameters, port_parameters};
-use stream::{MOST_WORDS, Refusal, Refused, writes_for};
+use stream::{MOST_WORDS, Refusal, Refused};
 
 // How many commands a command word holds.
 const SLOTS: usize = 4;
-
-// The commands of one command word: the write behind them, and how many words they are packed into.
-#[derive(Clone, Copy)]
-struct Group {
-    next: usize,
-    size: usize,
-}
 
 // Where reading and writing go on.
 #[derive(Clone, Copy)]
@@ -41,71 +34,51 @@ fn refused(refusal: Refusal, place: usize) -> Refused
     }
 }
 
-// The command whose port the i-th write goes to, which takes `count` parameters: whether all of them are written.
-fn all_written(log: &[[u32; 2]], i: usize, count: usize) -> Result<(), Refused>
+// The command that begins at the next write: how many parameters it takes. `next` goes on behind it. "first bad pair (5
+// before 6), 8"
+fn next_command(log: &[[u32; 2]], next: &mut usize) -> Result<usize, Refused>
     requires few { length log.now ≤ 4096 }
-    requires within { i < length log.now }
-    requires at_port { AtPort (writes_of log.now) i count }
-    ensures { MatchResult result (λ _. Begins (writes_of log.now) i count) (Stops (writes_of log.now) i) }
+    requires within { next.old < length log.now }
+    ensures { MatchResult result (Begins (writes_of log.now) next.old next.new) (Stops (writes_of log.now) next.old) }
 {
-    let [address, _] = log[i];
-    for j in 1..count {
-        let k = i + j;
-        if log.len() <= k {
-            return Err(refused(Refusal::Incomplete, i));
-        }
-        let [other, _] = log[k];
-        if other != address {
-            if command_at(other) == 0 {
-                return Err(refused(Refusal::NoPort, k));
-            }
-            return Err(refused(Refusal::OtherPort, k));
-        }
-    }
-    Ok(())
-}
-
-// The command that begins at the i-th write, as how many parameters it takes. "first bad pair (5 before 6), 8"
-fn next_command(log: &[[u32; 2]], i: usize) -> Result<usize, Refused>
-    requires few { length log.now ≤ 4096 }
-    requires within { i < length log.now }
-    ensures { MatchResult result (Begins (writes_of log.now) i) (Stops (writes_of log.now) i) }
-{
-    let [address, _] = log[i];
+    let first = *next;
+    let [address, _] = log[first];
     let Some(count) = port_parameters(address) else {
-        return Err(refused(Refusal::NoPort, i));
+        return Err(refused(Refusal::NoPort, first));
     };
-    let count = usize::from(count);
-    // Told apart here, the next write can be read before its place is summed up.
-    if count == 0 {
-        return Ok(0);
+    // Write by write, so that the next command can be looked at before the number of parameters is added.
+    *next += 1;
+    for _parameter in 1..count {
+        let Some([other, _]) = log.get(*next) else {
+            return Err(refused(Refusal::Incomplete, first));
+        };
+        if *other != address {
+            let refusal = if command_at(*other) == 0 { Refusal::NoPort } else { Refusal::OtherPort };
+            return Err(refused(refusal, *next));
+        }
+        *next += 1;
     }
-    all_written(log, i, count)?;
-    Ok(count)
+    Ok(usize::from(count))
 }
 
-// The commands from the i-th write on that one command word holds: four, or the last ones.
-fn measure_group(log: &[[u32; 2]], i: usize) -> Result<Group, Refused>
+// The commands from the next write on that one command word holds, four or the last ones: how many words they are packed
+// into. `next` goes on behind them.
+fn measure_group(log: &[[u32; 2]], next: &mut usize) -> Result<usize, Refused>
     requires few { length log.now ≤ 4096 }
-    requires within { i < length log.now }
-    ensures { MatchResult result (SizedGroup (writes_of log.now) i) (Stops (writes_of log.now) i) }
+    requires within { next.old < length log.now }
+    ensures { MatchResult result (SizedGroup (writes_of log.now) next.old next.new) (Stops (writes_of log.now) next.old) }
 {
-    let mut next = i;
     let mut size = 0;
     let mut none = false;
     for _slot in 0..SLOTS {
-        if log.len() <= next {
+        if log.len() <= *next {
             break;
         }
         let count = next_command(log, next)?;
-        next += writes_for(count);
         size += count;
         none = count == 0;
     }
-    Ok(Group {
-        next,
-        size: 1 + size + usize::from(none),
-    })
+    Ok(1 + size + usize::from(none))
 }
 
 // How many words the log is packed into.
@@ -113,17 +86,10 @@ fn measure(log: &[[u32; 2]]) -> Result<usize, Refused>
     requires { length log.now ≤ 4096 }
     ensures { answer_to result ≡ measured packed_words (log_commands (writes_of log.now)) }
 {
-    let mut i = 0;
+    let mut next = 0;
     let mut total = 0;
-    while i < log.len() {
-        // Matched, since `?` passes the group on through memory: packing would take 1.2 ns a write more.
-        match measure_group(log, i) {
-            Ok(group) => {
-                i = group.next;
-                total += group.size;
-            }
-            Err(refused) => return Err(refused),
-        }
+    while next < log.len() {
+        total += measure_group(log, &mut next)?;
     }
     Ok(total)
 }
