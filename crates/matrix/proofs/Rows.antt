@@ -3,49 +3,17 @@
 use mathlib.Core.Bool.{cond}
 use mathlib.Core.List.{List, [], ◌∷◌, map}
 use mathlib.Core.Path.{◌≡◌, sym, ◌∙◌, ap}
-use Prim.Native.Nat.{ℕ, zero, suc, ◌+◌, ◌-◌, ◌*◌, ◌/◌, ◌%◌, ◌^◌, ◌<◌}
-use native.Mathlib.Nat.{zero-mul, mul_comm, mul-suc, add-zero, zero-add, mul-div_cancel_left}
+use Prim.Native.Nat.{ℕ, zero, suc, ◌+◌, ◌*◌, ◌/◌, ◌%◌, ◌^◌, ◌<◌}
+use native.Mathlib.Nat.{zero-add}
 use native.Mathlib.Omega.{arith}
-use lib.Arith.{digits_div}
 use lib.Dec.{eqb, lit≤}
-use lib.IntN.{ℤ, pos, negsuc, neg_ℤ, sub_ℕ, ◌+ℤ◌, ◌*ℤ◌}
-use lib.Pow.{pow_pos}
+use lib.IntN.{ℤ, pos, ◌+ℤ◌, ◌*ℤ◌, +ℤ_idl, +ℤ_idr, zero-*ℤ}
 use lib.Signed.{mag}
-use borrow.Author.Tests.{lt-ltb}
 use mir.Syntax.{w32}
 use Rattle.lowbits.specs.Bits.{floor_bits, low_bits, as_signed, signed_low}
-use Rattle.lowbits.proofs.Laws.{low-add, low_floor, low-low, low_floor_plus, signed_low_lem, signed_of_shifted}
+use Rattle.lowbits.proofs.Laws.{low-add, low_floor, low-low, low_floor_plus, floor_times, signed_low_lem, signed_of_shifted}
 use Rattle.lowbits.proofs.Read.{in_signed}
 use Rattle.matrix.specs.Matrix.{rounded, entry, at, column, row_by, one}
-
--- ---- sums and products with 0
-
-times_zero : (a : ℤ) → pos 0 *ℤ a ≡ pos 0
-times_zero (pos a) = ap pos (zero-mul a)
-times_zero (negsuc a) = ap (λ (n : ℕ). neg_ℤ (pos n)) (zero-mul (suc a))
-
-minus : (a : ℕ) → sub_ℕ 0 (suc a) ≡ negsuc a
-minus a = simp (lt-ltb 0 (suc a) (omega arith)) (ap negsuc (omega arith))
-
-plus-zero : (a : ℤ) → a +ℤ pos 0 ≡ a
-plus-zero (pos a) = ap pos (add-zero a)
-plus-zero (negsuc a) = minus a
-
-zero-plus : (a : ℤ) → pos 0 +ℤ a ≡ a
-zero-plus (pos a) = ap pos (zero-add a)
-zero-plus (negsuc a) = minus a
-
--- ---- a number times 1.0
-
--- a number times 2 ^ j, divided by it again
-floor_times : (j : ℕ) (z : ℤ) → floor_bits j (pos (2 ^ j) *ℤ z) ≡ z
-unfolding floor_bits
-floor_times j (pos n) = ap pos (mul-div_cancel_left n (pow_pos j))
-floor_times j (negsuc n) =
-    ap (λ (x : ℕ). floor_bits j (neg_ℤ (pos x))) parts ∙ ap negsuc (digits_div n (omega (arith, pow_pos j)))
-  where
-    parts : 2 ^ j * suc n ≡ suc (n * 2 ^ j + (2 ^ j - 1))
-    parts = omega (arith, mul-suc (2 ^ j) n, mul_comm (2 ^ j) n, pow_pos j)
 
 -- 1.0 leaves a number of 32 bits
 rounded-one : (z : ℤ) → mag z < 2 ^ 31 → rounded (one *ℤ z) ≡ z
@@ -73,7 +41,7 @@ by_sum_plus z d e =
 pub entry-three : (x y z a b c d : ℤ) → rounded (x *ℤ a +ℤ y *ℤ b +ℤ z *ℤ c) ≡ entry x y z (pos 0) a b c d
 unfolding entry
 entry-three x y z a b c d =
-    ap rounded (sym (ap (λ (v : ℤ). x *ℤ a +ℤ y *ℤ b +ℤ z *ℤ c +ℤ v) (times_zero d) ∙ plus-zero _))
+    ap rounded (sym (ap (λ (v : ℤ). x *ℤ a +ℤ y *ℤ b +ℤ z *ℤ c +ℤ v) (zero-*ℤ d) ∙ +ℤ_idr _))
 
 -- ---- rows
 
@@ -90,12 +58,12 @@ module _ (m : List ℤ) (x : ℤ) where
   column-alone : (i j : ℕ) → i < 4
       → column (alone x i 0) (alone x i 1) (alone x i 2) (alone x i 3) m j ≡ rounded (x *ℤ at m (4 * i + j))
   unfolding entry
-  column-alone zero j h = simp (times_zero, zero-add, plus-zero (x *ℤ at m j))
+  column-alone zero j h = simp (zero-*ℤ, zero-add, +ℤ_idr (x *ℤ at m j))
   column-alone (suc zero) j h =
-      let v = x *ℤ at m (4 + j) in simp (times_zero, zero-plus v, plus-zero v)
+      let v = x *ℤ at m (4 + j) in simp (zero-*ℤ, +ℤ_idl v, +ℤ_idr v)
   column-alone (suc (suc zero)) j h =
-      let v = x *ℤ at m (8 + j) in simp (times_zero, zero-plus v, plus-zero v)
-  column-alone (suc (suc (suc zero))) j h = simp (times_zero, zero-plus (x *ℤ at m (12 + j)))
+      let v = x *ℤ at m (8 + j) in simp (zero-*ℤ, +ℤ_idl v, +ℤ_idr v)
+  column-alone (suc (suc (suc zero))) j h = simp (zero-*ℤ, +ℤ_idl (x *ℤ at m (12 + j)))
   column-alone (suc (suc (suc (suc i)))) j h = absurd (omega arith)
 
   -- so that the row × m is row i of m, each number times x

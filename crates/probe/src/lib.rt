@@ -28,7 +28,7 @@ pub extern "C" fn probe_feed_writes(
     ensures place_value { result.place ≡ place_of result.number result.taken }
     ensures first_given_back { FirstGivenBack e result }
 {
-    feed_writes(e, log, &mut *vertices, &mut *polygons)
+    feed_writes(e, log, vertices, polygons)
 }
 
 // An engine, and a number behind it, where a C struct of the same members has it.
@@ -42,25 +42,22 @@ pub struct Marked {
 fn marked_transform() -> Transform
     ensures { result ≡ marked_transform }
 {
-    let pair = Pair {
-        position: [-0x0100_0001; 16],
-        vector: [-0x0200_0002; 16],
-        level: 0x0300_0000_0000_0003,
-    };
-    let projection = Single {
-        matrix: [-0x0400_0004; 16],
-        slot: [-0x0500_0005; 16],
-        level: 0x0600_0000_0000_0006,
-    };
-    let texture = Single {
-        matrix: [-0x0700_0007; 16],
-        slot: [-0x0800_0008; 16],
-        level: 0x0900_0000_0000_0009,
-    };
     Transform {
-        pair: pair,
-        projection: projection,
-        texture: texture,
+        pair: Pair {
+            position: [-0x0100_0001; 16],
+            vector: [-0x0200_0002; 16],
+            level: 0x0300_0000_0000_0003,
+        },
+        projection: Single {
+            matrix: [-0x0400_0004; 16],
+            slot: [-0x0500_0005; 16],
+            level: 0x0600_0000_0000_0006,
+        },
+        texture: Single {
+            matrix: [-0x0700_0007; 16],
+            slot: [-0x0800_0008; 16],
+            level: 0x0900_0000_0000_0009,
+        },
         mode: 0x0a00_000a,
         error: true,
     }
@@ -69,34 +66,30 @@ fn marked_transform() -> Transform
 fn marked_geometry() -> Geometry
     ensures { result ≡ marked_geometry }
 {
-    let position = Coordinates {
-        x: -0x0e0e,
-        y: -0x0f0f,
-        z: -0x1010,
-    };
-    let waiting = Waiting {
-        list: 0x1100_0011,
-        first: [-0x1200_0012; 5],
-        second: [-0x1300_0013; 5],
-        third: [-0x1400_0014; 5],
-        count: 0x1500_0000_0000_0015,
-    };
-    let used = Counts {
-        vertices: 0x1600_0000_0000_0016,
-        polygons: 0x1700_0000_0000_0017,
-    };
-    let rooms = Counts {
-        vertices: 0x1800_0000_0000_0018,
-        polygons: 0x1900_0000_0000_0019,
-    };
     Geometry {
         given: 0x0b00_000b,
         attributes: 0x0c00_000c,
         colour: 0x0d00_000d,
-        position: position,
-        waiting: waiting,
-        used: used,
-        rooms: rooms,
+        position: Coordinates {
+            x: -0x0e0e,
+            y: -0x0f0f,
+            z: -0x1010,
+        },
+        waiting: Waiting {
+            list: 0x1100_0011,
+            first: [-0x1200_0012; 5],
+            second: [-0x1300_0013; 5],
+            third: [-0x1400_0014; 5],
+            count: 0x1500_0000_0000_0015,
+        },
+        used: Counts {
+            vertices: 0x1600_0000_0000_0016,
+            polygons: 0x1700_0000_0000_0017,
+        },
+        rooms: Counts {
+            vertices: 0x1800_0000_0000_0018,
+            polygons: 0x1900_0000_0000_0019,
+        },
         overflow: true,
     }
 }
@@ -127,24 +120,17 @@ fn marked_stream() -> Stream
 pub extern "C" fn probe_marks() -> Marked
     ensures { result ≡ marked }
 {
-    let transform = marked_transform();
-    let geometry = marked_geometry();
-    let registers = Registers {
-        transform: transform,
-        geometry: geometry,
-    };
-    let stacks = marked_stacks();
-    let core = Core {
-        registers: registers,
-        stacks: stacks,
-    };
-    let stream = marked_stream();
-    let engine = Engine {
-        core: core,
-        stream: stream,
-    };
     Marked {
-        engine: engine,
+        engine: Engine {
+            core: Core {
+                registers: Registers {
+                    transform: marked_transform(),
+                    geometry: marked_geometry(),
+                },
+                stacks: marked_stacks(),
+            },
+            stream: marked_stream(),
+        },
         after: 0x2000_0020,
     }
 }

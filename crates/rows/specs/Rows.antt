@@ -3,7 +3,7 @@
 -- by computing the definitions. A second list, with a claim of its own, shows readings of documents 01 and 02
 -- (docs/DECISIONS.md).
 use Rattle.std.specs.Prelude.{Bool, true, false, List, [], ◌∷◌, ◌++◌, map, ◌≡◌, ℕ, zero, suc, ◌*◌, ℤ, pos, negsuc, replicate, take}
-use Rattle.commands.specs.declared.Count.TheVariants.{Takes, Unknown}
+use Rattle.std.specs.Prelude.{Some, None}
 use Rattle.commands.specs.Commands.{lookup}
 use Rattle.matrix.specs.Matrix.{unit, at}
 use Rattle.stream.specs.Pending.{Pending, idle, queued, port_pending}
@@ -135,7 +135,7 @@ two_triangles =
 abbrev pub command_table_rows : List WorkedRow
 command_table_rows =
     -- 1: parameters of 34h 32; 73h, 9Fh and FFh unknown
-    gives (map lookup (0x34 ∷ 0x73 ∷ 0x9f ∷ 0xff ∷ [])) (Takes 32 ∷ Unknown ∷ Unknown ∷ Unknown ∷ [])
+    gives (map lookup (0x34 ∷ 0x73 ∷ 0x9f ∷ 0xff ∷ [])) (Some 32 ∷ None ∷ None ∷ None ∷ [])
     ∷ []
 
 abbrev pub word_rows : List WorkedRow

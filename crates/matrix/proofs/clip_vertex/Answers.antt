@@ -1,18 +1,17 @@
-use mathlib.Core.List.{[], ◌∷◌}
-use mathlib.Core.Path.{◌∙◌}
-use mir.Facts.{to_z-of_z}
-use mir.Syntax.{w32}
-use Rattle.lowbits.proofs.Read.{again}
-use Rattle.matrix.specs.Matrix.{row_by, one}
+use mathlib.Core.Path.{◌≡◌}
+use Prim.Native.Nat.{ℕ}
+use lib.IntN.{ℤ, pos}
+use Rattle.std.proofs.lemmas.List.FromFn.{fill_by_all}
+use Rattle.matrix.specs.Matrix.{column, row_by, one}
+use Rattle.matrix.proofs.Made.{made}
+use borrow.Author.Rules.{rules}
 use Rattle.matrix.proofs.clip_vertex.Goals as goal
 
 pub returns : goal.returns
 unfolding row_by
 returns c =
-    let m = c.args.clip in
-    (λ t. (again w32 _ c.vertex_of.type_inv ∙ c.vertex_of.ensures) t
-    ∷ (again w32 _ c.vertex_of-2.type_inv ∙ c.vertex_of-2.ensures) t
-    ∷ (again w32 _ c.vertex_of-3.type_inv ∙ c.vertex_of-3.ensures) t
-    ∷ (again w32 _ c.vertex_of-4.type_inv ∙ c.vertex_of-4.ensures) t
-    ∷ [])
-    ∙ (λ t. row_by (to_z-of_z c.ranges.x t) (to_z-of_z c.ranges.y t) (to_z-of_z c.ranges.z t) one m)
+    let v = c.args in
+    let items = c.from_fn.ensures.items in
+    let number : ℕ → ℤ = λ j. column v.x v.y v.z one v.clip j in
+    fill_by_all number c.from_fn.result 4 (pos 0) items.long
+    (λ k h. made _ _ (λ j z. z ≡ number j) 4 (λ j z q l e. search rules) c.from_fn.result items k (pos 0) h)

@@ -1,28 +1,23 @@
 use mathlib.Core.List.{[], ◌∷◌}
-use mathlib.Core.Path.{◌∙◌, ap₂}
-use mir.Syntax.{w32}
-use Rattle.lowbits.proofs.Read.{again}
+use mathlib.Core.Path.{◌∙◌}
+use Prim.Native.Nat.{◌<◌}
+use lib.ListN.{length}
+use Rattle.std.specs.List.{flat_map}
 use Rattle.matrix.specs.Matrix.{mul, row_by}
+use Rattle.matrix.proofs.Arrays.{row_at}
+use borrow.Author.Rules.{rules}
 use Rattle.matrix.proofs.multiply.Goals as goal
 
 pub returns : goal.returns
 unfolding mul row_by
 returns c =
-    (λ t. (again w32 _ c.cell_of.type_inv ∙ c.cell_of.ensures) t
-    ∷ (again w32 _ c.cell_of-2.type_inv ∙ c.cell_of-2.ensures) t
-    ∷ (again w32 _ c.cell_of-3.type_inv ∙ c.cell_of-3.ensures) t
-    ∷ (again w32 _ c.cell_of-4.type_inv ∙ c.cell_of-4.ensures) t
-    ∷ (again w32 _ c.cell_of-5.type_inv ∙ c.cell_of-5.ensures) t
-    ∷ (again w32 _ c.cell_of-6.type_inv ∙ c.cell_of-6.ensures) t
-    ∷ (again w32 _ c.cell_of-7.type_inv ∙ c.cell_of-7.ensures) t
-    ∷ (again w32 _ c.cell_of-8.type_inv ∙ c.cell_of-8.ensures) t
-    ∷ (again w32 _ c.cell_of-9.type_inv ∙ c.cell_of-9.ensures) t
-    ∷ (again w32 _ c.cell_of-10.type_inv ∙ c.cell_of-10.ensures) t
-    ∷ (again w32 _ c.cell_of-11.type_inv ∙ c.cell_of-11.ensures) t
-    ∷ (again w32 _ c.cell_of-12.type_inv ∙ c.cell_of-12.ensures) t
-    ∷ (again w32 _ c.cell_of-13.type_inv ∙ c.cell_of-13.ensures) t
-    ∷ (again w32 _ c.cell_of-14.type_inv ∙ c.cell_of-14.ensures) t
-    ∷ (again w32 _ c.cell_of-15.type_inv ∙ c.cell_of-15.ensures) t
-    ∷ (again w32 _ c.cell_of-16.type_inv ∙ c.cell_of-16.ensures) t
-    ∷ [])
-    ∙ ap₂ mul c.offsets-x.ensures c.offsets-a.ensures
+    let x = c.offsets-x.result in
+    let e = c.offsets-x.ensures in
+    let f = c.offsets-a.ensures in
+    let h0 : 3 < length x = search rules in
+    let h1 : 7 < length x = search rules in
+    let h2 : 11 < length x = search rules in
+    let h3 : 15 < length x = search rules in
+    c.matrix_of.ensures
+    ∙ (λ t. flat_map (λ row. row) ((c.row_by.ensures ∙ row_at x e f 0 h0) t ∷ (c.row_by-2.ensures ∙ row_at x e f 4 h1) t
+    ∷ (c.row_by-3.ensures ∙ row_at x e f 8 h2) t ∷ (c.row_by-4.ensures ∙ row_at x e f 12 h3) t ∷ []))

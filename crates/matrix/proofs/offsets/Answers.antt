@@ -1,32 +1,22 @@
 use mathlib.Core.List.{map}
-use mathlib.Core.Path.{◌≡◌, refl, sym, ◌∙◌, ap}
+use mathlib.Core.Path.{◌≡◌, sym, ◌∙◌}
 use native.Mathlib.Omega.{arith}
-use lib.ListN.{length, length-set}
-use lib.Seq.{take_all}
-use mir.Syntax.{w32}
-use Rattle.lowbits.proofs.Elements.{element}
+use lib.IntN.{pos}
+use lib.ListN.{length, get_or, length-map}
+use Rattle.std.proofs.lemmas.List.{ext_get_or}
 use Rattle.products.specs.Inside.{number}
-use Rattle.matrix.proofs.Arrays.{one_more}
+use Rattle.matrix.proofs.Arrays.{at-number}
+use Rattle.matrix.proofs.Made.{made}
 use borrow.Author.Rules.{rules}
 use Rattle.matrix.proofs.offsets.Goals as goal
-
-pub loop-i-init : goal.loop-i-init
-loop-i-init c = (search rules, refl, refl)
-
-pub loop-i-preserved : goal.loop-i-preserved
-loop-i-preserved c =
-    let m = c.args.m in
-    let good = c.well_formed.0.1.1 in
-    let long : length m ≡ 16 = search rules in (
-      search rules,
-      length-set c.loop-i.r c.loop-i.i _ ∙ c.loop-i.invariant.1,
-      one_more m c.loop-i.r c.loop-i.i _ c.loop-i.invariant.2 (c.offset.ensures ∙ element w32 m _ good c.loop-i.i) (omega arith)
-          (omega arith),
-    )
 
 pub returns : goal.returns
 returns c =
     let m = c.args.m in
-    let long : length m ≡ 16 = search rules in
-    let all : c.loop-i.i ≡ 16 = omega arith in
-    sym (ap (map number) (take_all c.loop-i.i c.loop-i.r (omega arith))) ∙ sym c.loop-i.invariant.2 ∙ take_all c.loop-i.i m (omega arith)
+    let r = c.from_fn.result in
+    let items = c.from_fn.ensures.items in
+    let long : length r ≡ 16 = items.long in
+    let long-m : length m ≡ 16 = search rules in
+    let long-n : length (map number r) ≡ 16 = length-map r number ∙ long in
+    ext_get_or (pos 0) (map number r) m (long-n ∙ sym long-m)
+    (λ i h. at-number r i (omega arith) ∙ made _ _ (λ k y. number y ≡ get_or m k (pos 0)) 16 (λ k y q h e. search rules) r items i 0 (omega arith))
