@@ -24,7 +24,7 @@ use registers::{
     overflow, status, vector_matrix,
 };
 use state::{Answer, Engine, ListAnswer};
-use stream::{OutputAnswer, Refusal, Refused, longest_list, longest_log};
+use stream::{OutputAnswer, Refusal, Refused, call_number, longest_list, longest_log};
 use words::write_words;
 
 // A log, where `log` holds, is packed to a list; else a list is unpacked to a log. Both are bytes, little-endian words;

@@ -1,7 +1,7 @@
 -- What is pending by the front of the queue, and turns over any step.
 use mathlib.Core.Bool.{Bool, true, false}
 use mathlib.Core.List.{List, [], ◌∷◌, ◌++◌}
-use mathlib.Core.Path.{◌≡◌, refl, sym, ap, subst, ◌∙◌}
+use mathlib.Core.Path.{◌≡◌, refl, sym, ap, ◌∙◌}
 use Prim.Native.Nat.{ℕ, zero, suc, ◌+◌, ◌/◌, ◌%◌, ◌^◌, ◌≤◌, ◌<◌}
 use native.Mathlib.Nat.{add-zero}
 use native.Mathlib.Omega.{arith}
@@ -195,4 +195,5 @@ module _ {A : Type 0} {step : Pending → A → Step} {items : List A} {i : ℕ}
         first : (a : A) (l : List A) → drop (i + 0) items ≡ a ∷ l → a ≡ get_or items i d
         first a l e =
             let here : i + 0 + 0 ≡ i = omega arith in
-            sym (ap (λ (l : List A). get_or l 0 d) e) ∙ get_or-drop (i + 0) items 0 d ∙ ap (λ (n : ℕ). get_or items n d) here
+            sym (ap (λ (l : List A). get_or l 0 d) e) ∙ get_or-drop (i + 0) items 0 d
+            ∙ ap (λ (n : ℕ). get_or items n d) here

@@ -18,7 +18,6 @@ use Rattle.stream.proofs.CommandLaws.{never}
 use Rattle.stream.proofs.QueueLaws.{hole-next}
 use Rattle.stream.proofs.StepLaws.{length-snoc}
 use Rattle.turns.specs.declared.Begun.{Begun}
-use Rattle.turns.specs.declared.Turn.{Turn}
 use Rattle.turns.specs.declared.Outcome.TheVariants.{Runs, GoesOn, Ends}
 use Rattle.turns.specs.Inside.{due_of, pending_due, Fit, Held, no_item, one-item, given_by, Turned}
 use Rattle.turns.proofs.HeldLaws.{same_length, next_one}

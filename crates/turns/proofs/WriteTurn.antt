@@ -1,5 +1,5 @@
 -- What a turn over port writes gives, case by case.
-use mathlib.Core.Bool.{Bool, true, false, not, ◌&&◌, ◌||◌}
+use mathlib.Core.Bool.{Bool, true, false, ◌||◌}
 use mathlib.Core.List.{List, [], ◌∷◌, ◌++◌}
 use mathlib.Core.Path.{◌≡◌, refl, sym, ap, subst, ◌∙◌}
 use Prim.Native.Nat.{ℕ, zero, suc, ◌+◌, ◌*◌, ◌/◌, ◌%◌, ◌^◌, ◌≤◌, ◌<◌}
@@ -24,8 +24,6 @@ use Rattle.stream.proofs.StepLaws.{length-snoc}
 use Rattle.stream.proofs.UnpackLaws.{length-writes}
 use Rattle.stream.proofs.WriteLaws.{writes_at}
 use Rattle.turns.specs.declared.Begun.{Begun}
-use Rattle.turns.specs.declared.Turn.{Turn}
-use Rattle.turns.specs.declared.Outcome.{Outcome}
 use Rattle.turns.specs.declared.Outcome.TheVariants.{Runs, GoesOn, Ends}
 use Rattle.turns.specs.Inside.{due_of, pending_due, is_packed, Fit, Writable, pair_at}
 use Rattle.turns.specs.Inside.{Held, AllTaken, no_item, one-item, Turned}
@@ -96,7 +94,14 @@ module _ (b : Begun) (log old : List ℕ) (i : ℕ) (f : Fit b) (due : due_of b 
       unfolding port_step
       write_other free begun-one other =
           write-refused OtherPort (λ z. omega (arith, z))
-          (rw (pending-idle b (not-queued b free) f old, ← at, ne_eqb c 0 some, no_dummy b free, ne_eqb b.port 0 begun-one, ne_eqb b.port c other))
+          (rw (
+            pending-idle b (not-queued b free) f old,
+            ← at,
+            ne_eqb c 0 some,
+            no_dummy b free,
+            ne_eqb b.port 0 begun-one,
+            ne_eqb b.port c other,
+          ))
 
 -- ---- writes are taken
 

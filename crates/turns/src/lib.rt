@@ -68,7 +68,7 @@ fn hold_words(words: &[u32], i: usize, many: usize, held: &mut [u32; 32], count:
 // A turn on the command at the front of the queue.
 fn parameters_turn(b: Begun, words: &[u32], i: usize, held: &mut [u32; 32]) -> Turn
     requires fit { Fit b × (known (b.queue % 256) ≡ true) }
-    requires i_in_bounds { (i ≤ length words.now) × (length held.old ≡ 32) }
+    requires i_in_bounds { i ≤ length words.now }
     ensures { Turned word_step words.now i b held.old result held.new }
 {
     let byte = (b.queue % 256) as u8;
@@ -108,7 +108,7 @@ fn parameters_turn(b: Begun, words: &[u32], i: usize, held: &mut [u32; 32]) -> T
 
 // A turn over packed words, from the i-th on.
 fn word_turn(b: Begun, words: &[u32], i: usize, held: &mut [u32; 32]) -> Turn
-    requires fit { Fit b × (i ≤ length words.now) × (length held.old ≡ 32) }
+    requires fit { Fit b × (i ≤ length words.now) }
     ensures { Turned word_step words.now i b held.old result held.new }
 {
     if is_known((b.queue % 256) as u8) {
@@ -120,30 +120,26 @@ fn word_turn(b: Begun, words: &[u32], i: usize, held: &mut [u32; 32]) -> Turn
     if b.port != 0 {
         return ends(i, b, Some(Refusal::OtherKindPending));
     }
-    let next = i + 1;
-    let outcome = Outcome::GoesOn;
     if b.dummy {
-        let begun = Begun { dummy: false, ..b };
         return Turn {
-            next,
-            begun,
-            outcome,
+            next: i + 1,
+            begun: Begun { dummy: false, ..b },
+            outcome: Outcome::GoesOn,
         };
     }
     let queue = words[i];
     if has_hole(command_bytes(queue)) {
         return ends(i, b, Some(Refusal::Hole));
     }
-    let begun = Begun {
-        queue,
-        count: 0,
-        dummy: false,
-        port: 0,
-    };
     Turn {
-        next,
-        begun,
-        outcome,
+        next: i + 1,
+        begun: Begun {
+            queue,
+            count: 0,
+            dummy: false,
+            port: 0,
+        },
+        outcome: Outcome::GoesOn,
     }
 }
 
@@ -194,6 +190,7 @@ fn values_turn(byte: u8, b: Begun, log: &[u32], i: usize, held: &mut [u32; 32]) 
         return complete;
     }
     let lacks = takes - b.count;
+    // Most commands lack one.
     if lacks == 1 {
         held[b.count] = log[2 * i + 1];
         return complete;
@@ -204,21 +201,20 @@ fn values_turn(byte: u8, b: Begun, log: &[u32], i: usize, held: &mut [u32; 32]) 
     if many == lacks {
         return Turn { next, ..complete };
     }
-    let begun = Begun {
-        count: b.count + many,
-        port: byte,
-        ..b
-    };
     Turn {
         next,
-        begun,
+        begun: Begun {
+            count: b.count + many,
+            port: byte,
+            ..b
+        },
         outcome: Outcome::GoesOn,
     }
 }
 
 // A turn over the port writes of a log, from the i-th on; `packed`: a packed word is pending.
 fn write_turn(packed: bool, b: Begun, log: &[u32], i: usize, held: &mut [u32; 32]) -> Turn
-    requires fit { Fit b × (i ≤ length log.now / 2) × (length held.old ≡ 32) }
+    requires fit { Fit b × (i ≤ length log.now / 2) }
     requires not_due { (due_of b ≡ []) × (packed ≡ is_packed b) }
     ensures turned { Turned port_step (writes log.now) i b held.old result held.new }
     ensures queue_kept { (result.begun.queue ≡ b.queue) × (result.begun.dummy ≡ b.dummy) }
@@ -258,7 +254,7 @@ pub fn turn_at(
     i: usize,
     held: &mut [u32; 32],
 ) -> Turn
-    requires fit { Fit b × (i ≤ items_in log (length words.now)) × (length held.old ≡ 32) }
+    requires fit { Fit b × (i ≤ items_in log (length words.now)) }
     requires not_due { log ≡ true → (due_of b ≡ []) × (packed ≡ is_packed b) }
     ensures turned_as { TurnedAs log words.now i b held.old result held.new }
     ensures queue_bounded { (log ≡ true → (result.begun.queue ≡ b.queue) × (result.begun.dummy ≡ b.dummy))

@@ -1,7 +1,7 @@
 -- What the functions inside the unpacker require and promise, of one command word and the words behind it: nothing here
 -- is cited by a contract outside.
-use Rattle.std.specs.Prelude.{Bool, false, cond, List, [], ◌∷◌, ◌≡◌, ℕ, ◌+◌, ◌≤◌, ◌<◌, eqb, length, get_or, take, drop}
-use Rattle.std.specs.Prelude.{Option, Some, None}
+use Rattle.std.specs.Prelude.{Bool, false, cond, Option, Some, None, ◌≡◌}
+use Rattle.std.specs.Prelude.{List, [], ◌∷◌, length, get_or, take, drop, ℕ, ◌+◌, ◌≤◌, ◌<◌, eqb}
 use Rattle.std.proofs.lemmas.List.Edits.{sets}
 use Rattle.commands.specs.Commands.{count, command_bytes, hole}
 use Rattle.stream.specs.Pending.{commands_of}

@@ -2,7 +2,7 @@
 // over the list measures, one writes.
 #![tactic(auto)]
 
-ghost use Rattle.std.specs.Prelude.{◌≡◌, ◌+◌, ◌*◌, ◌≤◌, length};
+ghost use Rattle.std.specs.Prelude.{◌≡◌, ◌+◌, ◌*◌, ◌^◌, ◌≤◌, ◌<◌, length};
 ghost use Rattle.std.proofs.lemmas.List.Edits.{sets};
 ghost use Rattle.words.specs.Words.{over};
 ghost use Rattle.commands.specs.Commands.{port};
@@ -30,6 +30,17 @@ struct Extent {
 struct Places {
     next: usize,
     to: usize,
+}
+
+// A refusal at a word of the list.
+fn refused(refusal: Refusal, place: usize) -> Refused
+    requires { place < 2 ^ 32 }
+    ensures { result ≡ record { refusal = refusal; place = place } }
+{
+    Refused {
+        refusal,
+        place: place as u32,
+    }
 }
 
 // The extent of the commands of a command word; none where the word has a hole.
@@ -66,17 +77,11 @@ fn measure(words: &[u32], place: usize) -> Result<u32, Refused>
     let mut total = 0;
     while i < words.len() {
         let Some(extent) = extent_of(words[i]) else {
-            return Err(Refused {
-                refusal: Refusal::Hole,
-                place: i as u32,
-            });
+            return Err(refused(Refusal::Hole, i));
         };
         let next = i + 1;
         if words.len() - next < extent.words {
-            return Err(Refused {
-                refusal: Refusal::Incomplete,
-                place: i as u32,
-            });
+            return Err(refused(Refusal::Incomplete, i));
         }
         i = next + extent.words;
         total += 2 * extent.writes;
@@ -149,17 +154,11 @@ pub fn unpack_from(words: &[u32], place: usize, output: &mut [u32]) -> Result<u3
         output.old output.new }
 {
     if MOST_WORDS < words.len() {
-        return Err(Refused {
-            refusal: Refusal::NoInput,
-            place: 0,
-        });
+        return Err(refused(Refusal::NoInput, 0));
     }
     let length = measure(words, place)?;
     if output.len() < length as usize {
-        return Err(Refused {
-            refusal: Refusal::OutputTooShort,
-            place: 0,
-        });
+        return Err(refused(Refusal::OutputTooShort, 0));
     }
     put_list(words, place, output);
     Ok(length)

@@ -1,4 +1,3 @@
-use Prim.Native.Nat.{◌≤◌}
 use Rattle.stream.specs.Command.{write}
 use Rattle.stream.specs.Read.{writes}
 use Rattle.turns.specs.Inside.{Held}

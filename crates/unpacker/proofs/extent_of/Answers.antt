@@ -42,9 +42,10 @@ overflow_add-writes c =
 
 pub loop-byte-preserved : goal.loop-byte-preserved
 loop-byte-preserved c =
+    let before = at-byte (goal.at.loop-byte-preserved c).After-parameters in
     elim c.match-parameters.branch [
       | in-None w ↦
-          (let s = extent_ended (at-byte (goal.at.loop-byte-preserved c).After-parameters) (no_command _ w.in-None.ensures) in
+          (let s = extent_ended before (no_command _ w.in-None.ensures) in
           record {
             so_far = rw (w.words-is, w.writes-is, w.dummy-is, w.ended-is) s;
             words_few = omega arith;
@@ -52,7 +53,7 @@ loop-byte-preserved c =
           })
       | in-Some-2 w ↦
           (let b = takes _ _ w.in-Some.ensures in
-          let s = extent_more (at-byte (goal.at.loop-byte-preserved c).After-parameters) b.0 w.if-ended.false _ _ b.1 w.writes_for-writes.ensures in
+          let s = extent_more before b.0 w.if-ended.false _ _ b.1 w.writes_for-writes.ensures in
           record {
             so_far = rw (w.words-is, w.writes-is, w.dummy-is, w.ended-is) s;
             words_few = omega (arith, b.2);
@@ -63,5 +64,6 @@ loop-byte-preserved c =
 pub returns : goal.returns
 returns c =
     let bs = c.to_le_bytes-byte-items.result in
-    let e = drop_of_length-le bs {i = c.loop-byte.byte-index} (omega (arith, ap length c.to_le_bytes-byte-items.ensures)) in
+    let i = c.loop-byte.byte-index in
+    let e = drop_of_length-le bs {i = i} (omega (arith, ap length c.to_le_bytes-byte-items.ensures)) in
     extent_end (rw e at c.loop-byte.invariant.so_far) _ (c.from.ensures ∙ dummy_word c.loop-byte.dummy)

@@ -12,7 +12,8 @@ pub loop-i-init : goal.loop-i-init
 loop-i-init c = measure_start c.args.words.now c.args.place c.requires
 
 pub returns-in_default : goal.returns-in_default
-returns-in_default c = measure_hole c.loop-i.invariant c.loop-i-test.true (has-hole _ c.in_default.ensures)
+returns-in_default c =
+    rw c.refused.ensures (measure_hole c.loop-i.invariant c.loop-i-test.true (has-hole _ c.in_default.ensures))
 
 -- what the word's commands take
 taken : (c : In-Some) → Extends (get_or c.args.words.now c.loop-i.i 0) c.in-Some.extent
@@ -20,8 +21,9 @@ taken c = extends _ c.in-Some.extent c.in-Some.ensures
 
 pub returns-then-words-next : goal.returns-then-words-next
 returns-then-words-next c =
-    measure_short c.loop-i.invariant c.loop-i-test.true c.in-Some.extent (taken (goal.at.returns-then-words-next c).In-Some)
-    (omega (arith, c.if-words-next.true))
+    rw c.refused-then-words-next.ensures
+    (measure_short c.loop-i.invariant c.loop-i-test.true c.in-Some.extent
+    (taken (goal.at.returns-then-words-next c).In-Some) (omega (arith, c.if-words-next.true)))
 
 -- its port writes and those before it are few
 small : (c : In-Some) → (c.in-Some.extent.writes ≤ 132) × (c.loop-i.total ≤ longest_log)

@@ -1,4 +1,3 @@
-use mathlib.Core.Path.{refl}
 use native.Mathlib.Omega.{arith}
 use lib.ListN.{length}
 use Rattle.std.proofs.lemmas.Result.{err_from_is_err_and}
@@ -10,12 +9,15 @@ use Rattle.unpacker.proofs.unpack_from.Goals.{In_ok-length}
 pub returns-then-words-gt-MOST_WORDS : goal.returns-then-words-gt-MOST_WORDS
 returns-then-words-gt-MOST_WORDS c =
     stores-none 7 0 _ c.args.output.now
-    (too_long c.args.place (length c.args.output.now) c.args.words.now c.if-words-gt-MOST_WORDS.true) refl
+    (too_long c.args.place (length c.args.output.now) c.args.words.now c.if-words-gt-MOST_WORDS.true)
+    (rw c.refused.ensures)
 
 pub returns-in_err-length : goal.returns-in_err-length
 returns-in_err-length c =
     let p = err_from_is_err_and c.from_residual.result c.from_residual.ensures.1 in
-    rw (p.1, p.2) (refused_reading c.args.place (length c.args.output.now) c.args.words.now _ c.if-words-gt-MOST_WORDS.false c.in_err-length.ensures c.args.output.now)
+    rw (p.1, p.2)
+    (refused_reading c.args.place (length c.args.output.now) c.args.words.now _ c.if-words-gt-MOST_WORDS.false
+    c.in_err-length.ensures c.args.output.now)
 
 -- nothing is wrong with the list
 is-accepted : (c : In_ok-length) → Accepted c.args.place c.args.words.now c.in_ok-length.length
@@ -27,8 +29,8 @@ pub returns-then-output-length : goal.returns-then-output-length
 returns-then-output-length c =
     let output = c.args.output.now in
     let a = is-accepted (goal.at.returns-then-output-length c).In_ok-length in
-    stores-none 10 0 _ output
-    (too_small (length output) a c.if-output-length.true) refl
+    stores-none 10 0 _ output (too_small (length output) a c.if-output-length.true)
+    (rw c.refused-then-output-length.ensures)
 
 pub put_list-requires-clause-read : goal.put_list-requires-clause-read
 put_list-requires-clause-read c = (is-accepted (goal.at.put_list-requires-clause-read c).In_ok-length).whole.read
