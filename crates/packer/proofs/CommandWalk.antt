@@ -21,7 +21,7 @@ use Rattle.stream.specs.Unpack.{writes_for}
 use Rattle.stream.proofs.CommandLaws.{takes_none-count, takes_some_count, count_takes_some}
 use Rattle.stream.proofs.ReadLaws.{stopped-not, prepend-none, idle_any}
 use Rattle.stream.proofs.UnpackLaws.{writes_for_none, writes_for_some, writes_for_bounds}
-use Rattle.packer.specs.Inside.{rest_commands, values, AtPort, write_at, byte_at, Begins}
+use Rattle.packer.specs.Inside.{rest_commands, values, write_at, byte_at, Begins}
 use Rattle.packer.proofs.ValueLaws.{length-values, values-more}
 
 -- the values of the first j writes from i on, as far as command c takes them
@@ -161,14 +161,17 @@ module _ (ws : List Write) (i : ℕ) where
           add_assoc i j 1,
         )
 
--- ---- the loop that looks for the next command: j writes from i on have gone to one port, that of a command of n
+-- ---- the loop that looks for the next command: j writes from i on, up to `next`, have gone to one port, that of a
+-- command of n parameters
 
-pub record Walking (ws : List Write) (i address n j : ℕ) : Type 0 where
+pub record Walking (ws : List Write) (i address n next j : ℕ) : Type 0 where
   pub address_is : address ≡ (write_at ws i).address
-  pub at_port : AtPort ws i n
+  pub is-command : byte_at ws i ≡ 0 → ⊥
+  pub counted : n ≡ count (byte_at ws i)
+  pub next-is : next ≡ i + j
   pub some : 1 ≤ j
   pub most : j ≤ writes_for n
-  pub within : i + j ≤ length ws
+  pub within : next ≤ length ws
   pub read : rest_commands i ws ≡ on_port ws i (byte_at ws i) j
 
 -- two addresses of one command are one
@@ -180,60 +183,70 @@ module _ (ws : List Write) (i : ℕ) (h : i < length ws) where
   pub walk_none : byte_at ws i ≡ 0 → rest_commands i ws ≡ stopped 5 i
   walk_none z = no_command ws i h z
 
-  pub walk_start : {n : ℕ} → AtPort ws i n → Walking ws i (write_at ws i).address n 1
+  pub walk_start : {n : ℕ} → (byte_at ws i ≡ 0 → ⊥) × (n ≡ count (byte_at ws i))
+      → Walking ws i (write_at ws i).address n (i + 1) 1
   walk_start {n} p = record {
     address_is = refl;
-    at_port = p;
+    is-command = p.0;
+    counted = p.1;
+    next-is = refl;
     some = omega arith;
     most = omega (arith, writes_for_bounds n);
     within = omega arith;
-    read = begins ws i (byte_at ws i) h refl p.is-command;
+    read = begins ws i (byte_at ws i) h refl p.0;
   }
 
-module _ {ws : List Write} {i address n j : ℕ} (w : Walking ws i address n j) where
-  pub walk_end : n ≤ j → Begins ws i n
+module _ {ws : List Write} {i address n next j : ℕ} (w : Walking ws i address n next j) where
+  pub walk_end : n ≤ j → Begins ws i next n
   walk_end h = by n refl
     where
-      begun : j ≡ writes_for n → Begins ws i n
+      begun : j ≡ writes_for n → Begins ws i next n
       begun e = record {
-        read = w.read ∙ complete ws i (byte_at ws i) j (omega (arith, w.at_port.counted))
-            ∙ rw (e, w.at_port.counted);
-        counted = w.at_port.counted;
-        within = omega (arith, w.within);
+        read = w.read ∙ complete ws i (byte_at ws i) j (omega (arith, w.counted)) ∙ rw (w.next-is, w.counted);
+        counted = w.counted;
+        next-is = omega (arith, w.next-is);
+        within = w.within;
       }
 
-      by : (m : ℕ) → n ≡ m → Begins ws i n
+      by : (m : ℕ) → n ≡ m → Begins ws i next n
       by zero e = begun (omega (arith, writes_for_none n e, w.most, w.some))
       by (suc m) e = begun (omega (arith, writes_for_some n (omega arith), w.most))
 
   module _ (t : j < n) where
     few : j < count (byte_at ws i)
-    few = omega (arith, w.at_port.counted)
+    few = omega (arith, w.counted)
 
-    pub walk_short : length ws ≤ i + j → rest_commands i ws ≡ stopped 8 i
-    walk_short h = w.read ∙ ends ws i (byte_at ws i) j few w.at_port.is-command h
+    pub walk_short : length ws ≤ next → rest_commands i ws ≡ stopped 8 i
+    walk_short h = w.read ∙ ends ws i (byte_at ws i) j few w.is-command (omega (arith, w.next-is))
 
-    module _ (h : i + j < length ws) where
-      pub walk_no_port : byte_at ws (i + j) ≡ 0 → rest_commands i ws ≡ stopped 5 (i + j)
-      walk_no_port z = w.read ∙ no_port ws i (byte_at ws i) j few w.at_port.is-command h z
+    module _ (h : next < length ws) where
+      inside : i + j < length ws
+      inside = omega (arith, w.next-is)
 
-      pub walk_other : ((write_at ws (i + j)).address ≡ address → ⊥) → (byte_at ws (i + j) ≡ 0 → ⊥)
-          → rest_commands i ws ≡ stopped 6 (i + j)
+      pub walk_no_port : byte_at ws next ≡ 0 → rest_commands i ws ≡ stopped 5 next
+      walk_no_port z =
+          w.read ∙ rw (w.next-is) (no_port ws i (byte_at ws i) j few w.is-command inside (rw w.next-is at z))
+
+      pub walk_other : ((write_at ws next).address ≡ address → ⊥) → (byte_at ws next ≡ 0 → ⊥)
+          → rest_commands i ws ≡ stopped 6 next
       walk_other d z =
           w.read
-          ∙ other_port ws i (byte_at ws i) j few w.at_port.is-command h z
-          (λ q. d (same-port (write_at ws (i + j)).address (write_at ws i).address z w.at_port.is-command q
-          ∙ sym w.address_is))
+          ∙ rw (w.next-is) (other_port ws i (byte_at ws i) j few w.is-command inside (rw w.next-is at z)
+          (λ q. (rw w.next-is at d) (same-port (write_at ws (i + j)).address (write_at ws i).address
+          (rw w.next-is at z) w.is-command q ∙ sym w.address_is)))
 
-      pub walk_more : (write_at ws (i + j)).address ≡ address → Walking ws i address n (j + 1)
+      pub walk_more : (write_at ws next).address ≡ address → Walking ws i address n (next + 1) (j + 1)
       walk_more q = record {
         address_is = w.address_is;
-        at_port = w.at_port;
+        is-command = w.is-command;
+        counted = w.counted;
+        next-is = omega (arith, w.next-is);
         some = omega arith;
         most = omega (arith, writes_for_some n (omega arith));
         within = omega arith;
         read = w.read
-            ∙ goes_on ws i (byte_at ws i) j few w.at_port.is-command h (ap command_at (q ∙ w.address_is));
+            ∙ goes_on ws i (byte_at ws i) j few w.is-command inside
+            (ap command_at ((rw w.next-is at q) ∙ w.address_is));
       }
 
 -- ---- in an accepted log a command begins where none is pending
@@ -297,7 +310,7 @@ pub read-command : (ws : List Write) (i : ℕ) (all : List Command) → i < leng
 read-command ws i all h e z = stopped-not (sym (no_command ws i h z) ∙ e)
 
 pub read-begins : (ws : List Write) (i : ℕ) (all : List Command) → i < length ws → rest_commands i ws ≡ commands all
-    → Begins ws i (count (byte_at ws i))
+    → Begins ws i (i + writes_for (count (byte_at ws i))) (count (byte_at ws i))
 read-begins ws i all h e =
     let z : byte_at ws i ≡ 0 → ⊥ = read-command ws i all h e in
     let n = count (byte_at ws i) in
@@ -308,5 +321,6 @@ read-begins ws i all h e =
     record {
       read = g ∙ r.same ∙ complete ws i (byte_at ws i) (writes_for n) (omega (arith, bounds));
       counted = refl;
+      next-is = refl;
       within = r.there;
     }

@@ -22,7 +22,6 @@ use Rattle.stream.proofs.CommandLaws.{none-by-count}
 use Rattle.stream.proofs.ReadLaws.{prepend-none, prepend-append}
 use Rattle.stream.proofs.PackLaws.{parameters-append, one-most, length-dummy}
 use Rattle.stream.proofs.UnpackLaws.{writes_for_bounds}
-use Rattle.packer.specs.declared.Group.{Group}
 use Rattle.packer.specs.Inside.{rest_commands, Stops, values, byte_at, command_from, Begins, IsGroup, SizedGroup}
 use Rattle.packer.proofs.ValueLaws.{length-values}
 
@@ -42,10 +41,10 @@ length-group g =
       length-dummy (ends_with_none false g) 0,
     )
 
-length-parameters : (ws : List Write) (i n : ℕ) → Begins ws i n → length (values (take n (drop i ws))) ≡ n
-length-parameters ws i n b =
+length-parameters : {ws : List Write} {i next n : ℕ} → Begins ws i next n → length (values (take n (drop i ws))) ≡ n
+length-parameters {ws} {i} {next} {n} b =
     length-values (take n (drop i ws))
-    ∙ length-take-le n (drop i ws) (rw (length-drop i ws) (omega (arith, writes_for_bounds n, b.within)))
+    ∙ length-take-le n (drop i ws) (rw (length-drop i ws) (omega (arith, writes_for_bounds n, b.within, b.next-is)))
 
 -- commands from write i on up to `next`, in one command word so far: `slot` of them with `size` parameters; `none`: the
 -- last of them takes none
@@ -74,19 +73,19 @@ none-taken ws i h = record {
 }
 
 -- one command more
-pub taken_more : {ws : List Write} {i next slot size : ℕ} {none : Bool} {cs : List Command}
-    → Taken ws i next slot size none cs → slot < 4 → (n : ℕ) → Begins ws next n
-    → Taken ws i (next + writes_for n) (slot + 1) (size + n) (eqb n 0) (cs ++ command_from ws next n ∷ [])
-taken_more {ws} {i} {next} {slot} {size} {none} {cs} t few n b =
+pub taken_more : {ws : List Write} {i next slot size next' n : ℕ} {none : Bool} {cs : List Command}
+    → Taken ws i next slot size none cs → slot < 4 → Begins ws next next' n
+    → Taken ws i next' (slot + 1) (size + n) (eqb n 0) (cs ++ command_from ws next n ∷ [])
+taken_more {ws} {i} {next} {slot} {size} {next'} {n} {none} {cs} t few b =
     let c = command_from ws next n in
     record {
-      read = t.read ∙ ap (prepend cs) b.read ∙ prepend-append cs (c ∷ []) (rest_commands (next + writes_for n) ws);
+      read = t.read ∙ ap (prepend cs) b.read ∙ prepend-append cs (c ∷ []) (rest_commands next' ws);
       slots = omega (arith, t.slots, length-append cs (c ∷ []));
       most = omega arith;
       counted = omega (
         arith,
         t.counted,
-        length-parameters ws next n b,
+        length-parameters b,
         ap length (parameters-append cs (c ∷ [])),
         length-append (parameters_of cs) (values (take n (drop next ws)) ++ []),
         length-append (values (take n (drop next ws))) [],
@@ -98,9 +97,9 @@ taken_more {ws} {i} {next} {slot} {size} {none} {cs} t few n b =
       within = b.within;
     }
   where
-    by : (s : ℕ) → slot ≡ s → i < next + writes_for n
-    by zero e = omega (arith, t.none_yet e, writes_for_bounds n)
-    by (suc s) e = omega (arith, t.on (omega arith), writes_for_bounds n)
+    by : (s : ℕ) → slot ≡ s → i < next'
+    by zero e = omega (arith, t.none_yet e, writes_for_bounds n, b.next-is)
+    by (suc s) e = omega (arith, t.on (omega arith), writes_for_bounds n, b.next-is)
 
 -- a whole group
 pub group-taken : {ws : List Write} {i next slot size : ℕ} {none : Bool} {cs : List Command}
@@ -140,33 +139,25 @@ pub group-start : {ws : List Write} {i : ℕ} → length ws ≤ 4096 → i < len
 group-start {ws} {i} f h = record { few = f; start = h; cs = []; taken = none-taken ws i h }
 
 module _ {ws : List Write} {i next slot size : ℕ} {none : Bool} (m : MeasuringGroup ws i next slot size none) where
-  pub group-bounds : (next ≤ 4096) × (size ≤ 128) × (slot ≤ 4)
-  group-bounds = (
-    omega (arith, m.taken.within, m.few),
-    omega (arith, m.taken.small, m.taken.most),
-    m.taken.most,
-  )
+  pub group-bounds : (size ≤ 128) × (slot ≤ 4)
+  group-bounds = (omega (arith, m.taken.small, m.taken.most), m.taken.most)
 
-  module _ {n : ℕ} (b : Begins ws next n) where
-    pub group-more-fits : (next + writes_for n ≤ 4096) × (size + n ≤ 160)
-    group-more-fits = (
-      omega (arith, b.within, m.few),
-      omega (arith, group-bounds.1, b.counted, count_small (byte_at ws next)),
-    )
+  module _ {next' n : ℕ} (b : Begins ws next next' n) where
+    pub group-more-fits : size + n ≤ 160
+    group-more-fits = omega (arith, group-bounds.0, b.counted, count_small (byte_at ws next))
 
-    pub group-more : slot < 4 → MeasuringGroup ws i (next + writes_for n) (slot + 1) (size + n) (eqb n 0)
+    pub group-more : slot < 4 → MeasuringGroup ws i next' (slot + 1) (size + n) (eqb n 0)
     group-more h = record {
       few = m.few;
       start = m.start;
       cs = m.cs ++ command_from ws next n ∷ [];
-      taken = taken_more m.taken h n b;
+      taken = taken_more m.taken h b;
     }
 
   pub group-stopped : (r : Refused) → Stops ws next r → Stops ws i r
   group-stopped r s = m.taken.read ∙ ap (prepend m.cs) s
 
-  pub group-end : (slot ≡ 4) ⊎ (length ws ≤ next)
-      → SizedGroup ws i (record { next = next; size = 1 + size + count_if none 0 })
+  pub group-end : (slot ≡ 4) ⊎ (length ws ≤ next) → SizedGroup ws i next (1 + size + count_if none 0)
   group-end w = record {
     cs = m.cs;
     group = group-taken m.taken m.start w;
@@ -264,7 +255,7 @@ module _ {ws : List Write} {i total : ℕ} (m : Measuring ws i total) where
     omega (arith, m.passed.within, m.few),
   )
 
-  pub measure_more : i < length ws → {r : Group} → SizedGroup ws i r → Measuring ws r.next (total + r.size)
+  pub measure_more : i < length ws → {next size : ℕ} → SizedGroup ws i next size → Measuring ws next (total + size)
   measure_more h g = record {
     few = m.few;
     done = m.done ++ g.cs;

@@ -4,16 +4,14 @@ use mathlib.Core.Bool.{Bool, true, false}
 use mathlib.Core.List.{List, [], ◌∷◌, ◌++◌, append_assoc, append-nil}
 use mathlib.Core.Logic.{◌⊎◌, inl, inr}
 use mathlib.Core.Path.{◌≡◌, refl, sym, ap, ◌∙◌}
-use Prim.Native.Nat.{ℕ, zero, suc, ◌+◌, ◌-◌, ◌*◌, ◌≤◌, ◌<◌}
-use native.Mathlib.Nat.{zero-add}
+use Prim.Native.Nat.{ℕ, suc, ◌+◌, ◌-◌, ◌*◌, ◌^◌, ◌≤◌, ◌<◌}
+use native.Mathlib.Nat.{zero-add, pow-succ', mul_assoc}
 use native.Mathlib.Numerals.{add-one}
 use native.Mathlib.Omega.{arith}
-use mir.Syntax.{w32}
 use lib.Dec.{eqb}
-use lib.ListN.{length, take, drop, set, replicate, length-append, length-drop, length-set, length-replicate, drop_of_length-le}
-use lib.Seq.{sets, sets-eq, length-sets, length-take-le, set_comm, take-append-add, drop-drop, set-append_seam}
+use lib.ListN.{length, take, drop, set, length-append, length-drop, length-set, drop_of_length-le}
+use lib.Seq.{sets, sets-eq, length-sets, length-take-le, set_comm, take-append-add, drop-drop}
 use borrow.Rule.Slice.PartMut.{put_mid}
-use Rattle.std.specs.Int.{from_le_bytes}
 use Rattle.words.specs.Words.{word_of, over}
 use Rattle.words.proofs.Over.{sets-append, sets_over}
 use Rattle.commands.specs.Commands.{count}
@@ -23,7 +21,7 @@ use Rattle.stream.specs.Pack.{queue_of, parameters_of, ends_with_none, group_wor
 use Rattle.stream.specs.Unpack.{writes_for}
 use Rattle.stream.proofs.ReadLaws.{More, behind}
 use Rattle.stream.proofs.PackLaws.{length-queue, parameters-append}
-use Rattle.stream.proofs.UnpackLaws.{writes_for_bounds}
+use Rattle.stream.proofs.UnpackLaws.{writes_for_none, writes_for_some, writes_for_bounds}
 use Rattle.packer.specs.declared.Places.{Places}
 use Rattle.packer.specs.Inside.{writes_of, rest_commands, values, byte_at, command_from, Begins, IsGroup, GroupFits, PutGroup}
 use Rattle.packer.proofs.ValueLaws.{length-writes_of, part-writes, length-values}
@@ -38,19 +36,12 @@ queue-append : (g h : List Command) → queue_of (g ++ h) ≡ queue_of g ++ queu
 queue-append [] h = refl
 queue-append (c ∷ g) h = ap (λ (l : List ℕ). c.byte ∷ l) (queue-append g h)
 
--- bytes of a command word behind its commands' are 0
-word-rest : (q : List ℕ) (n : ℕ) → word_of (q ++ replicate n 0) ≡ word_of q
-word-rest [] zero = refl
-word-rest [] (suc n) = omega (arith, word-rest [] n)
-word-rest (b ∷ q) n = ap (λ (x : ℕ). b + 256 * x) (word-rest q n)
-
-word-bytes : (bs : List ℕ) → length bs ≡ 4 → from_le_bytes w32 bs ≡ word_of bs
-word-bytes [] e = absurd (omega arith)
-word-bytes (a ∷ []) e = absurd (omega arith)
-word-bytes (a ∷ b ∷ []) e = absurd (omega arith)
-word-bytes (a ∷ b ∷ c ∷ []) e = absurd (omega arith)
-word-bytes (a ∷ b ∷ c ∷ d ∷ []) e = omega arith
-word-bytes (a ∷ b ∷ c ∷ d ∷ f ∷ bs) e = absurd (omega arith)
+word_more : (q : List ℕ) (c : ℕ) → word_of (q ++ c ∷ []) ≡ word_of q + 256 ^ length q * c
+word_more [] c = omega arith
+word_more (b ∷ q) c =
+    let p : 256 ^ suc (length q) * c ≡ 256 * (256 ^ length q * c) =
+    ap (λ (x : ℕ). x * c) (pow-succ' 256 (length q)) ∙ mul_assoc 256 (256 ^ length q) c in
+    omega (arith, p, word_more q c)
 
 -- a store below a run of stores
 set_below : (l : List ℕ) (i j : ℕ) (ys : List ℕ) (v : ℕ) → i < j → set (sets l j ys) i v ≡ sets (set l i v) j ys
@@ -60,7 +51,7 @@ set_below l i j (y ∷ ys) v h =
     set_below (set l j y) i (suc j) ys v (omega arith) ∙ ap (λ (k : List ℕ). sets k (suc j) ys) e
 
 -- the values of n writes from the k-th on, stored in a part of a list
-pub put_part : (l : List ℕ) (i : ℕ) (log : List (List ℕ)) (k n : ℕ) (vs : List ℕ)
+put_part : (l : List ℕ) (i : ℕ) (log : List (List ℕ)) (k n : ℕ) (vs : List ℕ)
     → k + n ≤ length log → i + n ≤ length l → vs ≡ values (writes_of (take (k + n - k) (drop k log)))
     → put_mid i (i + n - i) l vs ≡ sets l i (values (take n (drop k (writes_of log))))
 put_part l i log k n vs h room e =
@@ -139,50 +130,64 @@ group-behind {ws} {i} {next} {cs} all g e = by g.full
               ∙ sym (rw n (nothing_behind cs));
         }
 
+-- reading and writing go on behind a command of n parameters, whose values are stored
+pub record Stored (ws : List Write) (n next end : ℕ) (buffer : List ℕ) (next' end' : ℕ) (buffer' : List ℕ) : Type 0 where
+  pub next-is : next' ≡ next + writes_for n
+  pub end-is : end' ≡ end + n
+  pub buffer-is : buffer' ≡ sets buffer end (values (take n (drop next ws)))
+
+pub stored_none : {ws : List Write} {n next end : ℕ} {buffer : List ℕ} {next' end' : ℕ} {buffer' : List ℕ}
+    → n ≡ 0 → next' ≡ next + 1 → end' ≡ end → buffer' ≡ buffer → Stored ws n next end buffer next' end' buffer'
+stored_none {n = n} z e f g = record {
+  next-is = omega (arith, writes_for_none n z);
+  end-is = omega arith;
+  buffer-is = rw z g;
+}
+
+pub stored_some : (log : List (List ℕ)) {n next end : ℕ} {buffer : List ℕ} {next' end' : ℕ} {buffer' vs : List ℕ}
+    → (n ≡ 0 → ⊥) → next + n ≤ length log → end + n ≤ length buffer
+    → vs ≡ values (writes_of (take (next + n - next) (drop next log))) → next' ≡ next + n → end' ≡ end + n
+    → buffer' ≡ put_mid end (end + n - end) buffer vs → Stored (writes_of log) n next end buffer next' end' buffer'
+stored_some log {n} {next} {end} {buffer} {vs = vs} d h room v e f g = record {
+  next-is = omega (arith, writes_for_some n (omega arith));
+  end-is = f;
+  buffer-is = g ∙ put_part buffer end log next n vs h room v;
+}
+
 -- ---- the loop that writes a group: its commands cs are stored behind the place where their word will stand
 
-pub record PuttingGroup (ws : List Write) (from : Places) (old : List ℕ) (next slot : ℕ) (bytes : List ℕ) (end : ℕ)
-    (none : Bool) (new : List ℕ) : Type 0 where
+pub record PuttingGroup (ws : List Write) (from : Places) (old : List ℕ) (next slot word end : ℕ) (none : Bool)
+    (new : List ℕ) : Type 0 where
   pub fits : GroupFits ws from old
   pub cs : List Command
   pub size : ℕ
   pub taken : Taken ws from.next next slot size none cs
-  pub bytes_are : bytes ≡ queue_of cs ++ replicate (4 - slot) 0
+  pub word-is : word ≡ word_of (queue_of cs)
+  pub word_small : word < 256 ^ slot
   pub end_is : end ≡ from.to + 1 + size
   pub same : length new ≡ length old
   pub buffer : new ≡ sets old (from.to + 1) (parameters_of cs)
 
 pub put_group_start : {ws : List Write} {from : Places} {old : List ℕ} → GroupFits ws from old
-    → PuttingGroup ws from old from.next 0 (replicate 4 0) (from.to + 1) false old
+    → PuttingGroup ws from old from.next 0 0 (from.to + 1) false old
 put_group_start {ws} {from} f = record {
   fits = f;
   cs = [];
   size = 0;
   taken = none-taken ws from.next f.start;
-  bytes_are = refl;
+  word-is = refl;
+  word_small = omega arith;
   end_is = omega arith;
   same = refl;
   buffer = refl;
 }
 
-module _ {ws : List Write} {from : Places} {old : List ℕ} {next slot : ℕ} {bytes : List ℕ} {end : ℕ} {none : Bool}
-    {new : List ℕ} (p : PuttingGroup ws from old next slot bytes end none new) where
+module _ {ws : List Write} {from : Places} {old : List ℕ} {next slot word end : ℕ} {none : Bool}
+    {new : List ℕ} (p : PuttingGroup ws from old next slot word end none new) where
   rest-is : More p.cs (or_none (rest_commands from.next ws)) (rest_commands next ws)
   rest-is =
       behind p.cs (or_none (rest_commands from.next ws)) (rest_commands next ws)
       (sym p.taken.read ∙ p.fits.is_read)
-
-  pub length-bytes : length bytes ≡ 4
-  length-bytes =
-      omega (
-        arith,
-        ap length p.bytes_are,
-        length-append (queue_of p.cs) (replicate (4 - slot) 0),
-        length-replicate {A = ℕ} (4 - slot) 0,
-        length-queue p.cs,
-        p.taken.slots,
-        p.taken.most,
-      )
 
   module _ (h : next < length ws) where
     -- a command begins at the next write
@@ -191,21 +196,18 @@ module _ {ws : List Write} {from : Places} {old : List ℕ} {next slot : ℕ} {b
 
     -- the next command, of n parameters
     module _ (few : slot < 4) (n : ℕ) (k : n ≡ count (byte_at ws next)) where
-      b : Begins ws next n
+      b : Begins ws next (next + writes_for n) n
       b = rw k (read-begins ws next rest-is.more h rest-is.is)
 
       t : Taken ws from.next (next + writes_for n) (slot + 1) (p.size + n) (eqb n 0)
           (p.cs ++ command_from ws next n ∷ [])
-      t = taken_more p.taken few n b
+      t = taken_more p.taken few b
 
       m : More (p.cs ++ command_from ws next n ∷ []) (or_none (rest_commands from.next ws))
           (rest_commands (next + writes_for n) ws)
       m =
           behind (p.cs ++ command_from ws next n ∷ []) (or_none (rest_commands from.next ws))
           (rest_commands (next + writes_for n) ws) (sym t.read ∙ p.fits.is_read)
-
-      pub within : next + writes_for n ≤ length ws
-      within = b.within
 
       pub values-room : (next + n ≤ length ws) × (end + n ≤ length new)
       values-room = (
@@ -222,25 +224,29 @@ module _ {ws : List Write} {from : Places} {old : List ℕ} {next slot : ℕ} {b
         ),
       )
 
-      pub put_group_more : (new' : List ℕ) → new' ≡ sets new end (values (take n (drop next ws)))
-          → PuttingGroup ws from old (next + writes_for n) (slot + 1) (set bytes slot (byte_at ws next)) (end + n)
-          (eqb n 0) new'
-      put_group_more new' e =
+      pub put_group_more : {next' word' end' : ℕ} {new' : List ℕ} → Stored ws n next end new next' end' new'
+          → word' ≡ word + 256 ^ slot * byte_at ws next → word' < 256 ^ (slot + 1)
+          → PuttingGroup ws from old next' (slot + 1) word' end' (eqb n 0) new'
+      put_group_more e w s =
           let c = command_from ws next n in
           let vs = values (take n (drop next ws)) in
-          let left : 4 - slot ≡ suc (4 - (slot + 1)) = omega arith in
           record {
             fits = p.fits;
             cs = p.cs ++ c ∷ [];
             size = p.size + n;
-            taken = t;
-            bytes_are = rw (p.bytes_are, left, queue-append p.cs (c ∷ []), p.taken.slots, ← length-queue p.cs)
-                (set-append_seam (queue_of p.cs) 0 (replicate (4 - (length (queue_of p.cs) + 1)) 0) (byte_at ws next)
-                ∙ sym (append_assoc (queue_of p.cs) (byte_at ws next ∷ [])
-                (replicate (4 - (length (queue_of p.cs) + 1)) 0)));
-            end_is = omega (arith, p.end_is);
-            same = ap length e ∙ length-sets new end vs ∙ p.same;
-            buffer = e
+            taken = rw e.next-is t;
+            word-is = w
+                ∙ rw (
+                  queue-append p.cs (c ∷ []),
+                  word_more (queue_of p.cs) (byte_at ws next),
+                  length-queue p.cs,
+                  ← p.taken.slots,
+                  ← p.word-is,
+                );
+            word_small = s;
+            end_is = omega (arith, p.end_is, e.end-is);
+            same = ap length e.buffer-is ∙ length-sets new end vs ∙ p.same;
+            buffer = e.buffer-is
                 ∙ sym (rw (
                   parameters-append p.cs (c ∷ []),
                   append-nil vs,
@@ -274,50 +280,44 @@ module _ {ws : List Write} {from : Places} {old : List ℕ} {next slot : ℕ} {b
           length-append (group_words p.cs) (packed_words l.more),
         )
 
-    -- the command word
-    module _ (word : ℕ) (is : word ≡ from_le_bytes w32 bytes) where
-      word-is : word ≡ word_of (queue_of p.cs)
-      word-is =
-          is ∙ word-bytes bytes length-bytes ∙ ap word_of p.bytes_are ∙ word-rest (queue_of p.cs) (4 - slot)
+    first : set new from.to word ≡ sets old from.to (word_of (queue_of p.cs) ∷ parameters_of p.cs)
+    first =
+        rw (p.buffer, p.word-is, add-one from.to)
+        (set_below old from.to (suc from.to) (parameters_of p.cs) (word_of (queue_of p.cs)) (omega arith))
 
-      first : set new from.to word ≡ sets old from.to (word_of (queue_of p.cs) ∷ parameters_of p.cs)
-      first =
-          rw (p.buffer, word-is, add-one from.to)
-          (set_below old from.to (suc from.to) (parameters_of p.cs) (word_of (queue_of p.cs)) (omega arith))
+    pub dummy-room : none ≡ true → end < length (set new from.to word)
+    dummy-room e =
+        rw (length-set new from.to word) (omega (arith, end-room, ap (λ (b : Bool). count_if b 0) e))
 
-      pub dummy-room : none ≡ true → end < length (set new from.to word)
-      dummy-room e =
-          rw (length-set new from.to word) (omega (arith, end-room, ap (λ (b : Bool). count_if b 0) e))
+    pub put_dummy : none ≡ true
+        → PutGroup ws from old (set (set new from.to word) end 0) (record { next = next; to = end + 1 })
+    unfolding group_words
+    put_dummy e =
+        let d : ends_with_none false p.cs ≡ true = sym p.taken.last ∙ e in
+        let k : count_if none 0 ≡ 1 = ap (λ (b : Bool). count_if b 0) e in
+        let ws = word_of (queue_of p.cs) ∷ parameters_of p.cs in
+        let q : from.to + length (word_of (queue_of p.cs) ∷ parameters_of p.cs) ≡ end =
+        omega (arith, p.end_is, p.taken.counted) in
+        record {
+          cs = p.cs;
+          group = g;
+          end = omega (arith, size_is, p.end_is);
+          small = omega (arith, size_is, p.taken.small, p.taken.most);
+          buffer = rw (first, d, ← q) (sym (sets-append old from.to ws (0 ∷ [])));
+        }
 
-      pub put_dummy : none ≡ true
-          → PutGroup ws from old (set (set new from.to word) end 0) (record { next = next; to = end + 1 })
-      unfolding group_words
-      put_dummy e =
-          let d : ends_with_none false p.cs ≡ true = sym p.taken.last ∙ e in
-          let k : count_if none 0 ≡ 1 = ap (λ (b : Bool). count_if b 0) e in
-          let ws = word_of (queue_of p.cs) ∷ parameters_of p.cs in
-          let q : from.to + length (word_of (queue_of p.cs) ∷ parameters_of p.cs) ≡ end =
-          omega (arith, p.end_is, p.taken.counted) in
-          record {
-            cs = p.cs;
-            group = g;
-            end = omega (arith, size_is, p.end_is);
-            small = omega (arith, size_is, p.taken.small, p.taken.most);
-            buffer = rw (first, d, ← q) (sym (sets-append old from.to ws (0 ∷ [])));
-          }
-
-      pub put_plain : none ≡ false → PutGroup ws from old (set new from.to word) (record { next = next; to = end })
-      unfolding group_words
-      put_plain e =
-          let d : ends_with_none false p.cs ≡ false = sym p.taken.last ∙ e in
-          let k : count_if none 0 ≡ 0 = ap (λ (b : Bool). count_if b 0) e in
-          record {
-            cs = p.cs;
-            group = g;
-            end = omega (arith, size_is, p.end_is);
-            small = omega (arith, size_is, p.taken.small, p.taken.most);
-            buffer = first ∙ rw (d, append-nil (parameters_of p.cs));
-          }
+    pub put_plain : none ≡ false → PutGroup ws from old (set new from.to word) (record { next = next; to = end })
+    unfolding group_words
+    put_plain e =
+        let d : ends_with_none false p.cs ≡ false = sym p.taken.last ∙ e in
+        let k : count_if none 0 ≡ 0 = ap (λ (b : Bool). count_if b 0) e in
+        record {
+          cs = p.cs;
+          group = g;
+          end = omega (arith, size_is, p.end_is);
+          small = omega (arith, size_is, p.taken.small, p.taken.most);
+          buffer = first ∙ rw (d, append-nil (parameters_of p.cs));
+        }
 
 -- ---- the loop that writes a log
 

@@ -11,7 +11,6 @@ use Rattle.stream.specs.Step.{port_step}
 use Rattle.stream.specs.Read.{Read, stopped, prepend, scan}
 use Rattle.stream.specs.Pack.{group_words, packed_words, or_none, IsRead}
 use Rattle.stream.specs.Unpack.{writes_for}
-use Rattle.packer.specs.declared.Group.{Group}
 use Rattle.packer.specs.declared.Places.{Places}
 
 -- a log as the code reads it: an address and a value, an address and a value
@@ -39,20 +38,16 @@ write_at ws i = get_or ws i (write 0 0)
 abbrev pub byte_at : List Write → ℕ → ℕ
 byte_at ws i = command_at (write_at ws i).address
 
--- write i goes to the port of a command of n parameters
-pub record AtPort (ws : List Write) (i n : ℕ) : Type 0 where
-  pub is-command : byte_at ws i ≡ 0 → ⊥
-  pub counted : n ≡ count (byte_at ws i)
-
 -- the command that begins at write i, of n parameters
 abbrev pub command_from : List Write → ℕ → ℕ → Command
 command_from ws i n = command (byte_at ws i) (values (take n (drop i ws)))
 
--- a command of n parameters begins at write i, and is complete
-pub record Begins (ws : List Write) (i n : ℕ) : Type 0 where
-  pub read : rest_commands i ws ≡ prepend (command_from ws i n ∷ []) (rest_commands (i + writes_for n) ws)
+-- a command of n parameters begins at write i, and is complete at write `next`
+pub record Begins (ws : List Write) (i next n : ℕ) : Type 0 where
+  pub read : rest_commands i ws ≡ prepend (command_from ws i n ∷ []) (rest_commands next ws)
   pub counted : n ≡ count (byte_at ws i)
-  pub within : i + writes_for n ≤ length ws
+  pub next-is : next ≡ i + writes_for n
+  pub within : next ≤ length ws
 
 -- ---- the commands of one command word
 
@@ -66,11 +61,11 @@ pub record IsGroup (ws : List Write) (i next : ℕ) (cs : List Command) : Type 0
   pub within : next ≤ length ws
 
 -- and they are packed into so many words
-pub record SizedGroup (ws : List Write) (i : ℕ) (g : Group) : Type 0 where
+pub record SizedGroup (ws : List Write) (i next size : ℕ) : Type 0 where
   pub cs : List Command
-  pub group : IsGroup ws i g.next cs
-  pub counted : g.size ≡ length (group_words cs)
-  pub small : g.size ≤ 130
+  pub group : IsGroup ws i next cs
+  pub counted : size ≡ length (group_words cs)
+  pub small : size ≤ 130
 
 -- a log that the packer takes is accepted where reading goes on, and its packed words fit the buffer where writing does
 pub record GroupFits (ws : List Write) (from : Places) (old : List ℕ) : Type 0 where

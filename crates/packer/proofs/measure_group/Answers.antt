@@ -22,17 +22,12 @@ returns-in_err-count c =
     let p = err_from_is_err_and c.from_residual.result c.from_residual.ensures.1 in
     rw (p.1, p.2) (group-stopped c.loop-slot.invariant _ c.in_err-count.ensures)
 
-pub overflow_add-next : goal.overflow_add-next
-overflow_add-next c =
-    omega (arith, group-more-fits c.loop-slot.invariant c.in_ok-count.ensures, c.writes_for-next.ensures)
-
 pub overflow_add-size : goal.overflow_add-size
 overflow_add-size c = omega (arith, group-more-fits c.loop-slot.invariant c.in_ok-count.ensures)
 
 pub loop-slot-preserved : goal.loop-slot-preserved
 loop-slot-preserved c =
-    rw c.writes_for-next.ensures
-    (group-more c.loop-slot.invariant c.in_ok-count.ensures c.loop-slot-test.true)
+    group-more c.loop-slot.invariant c.in_ok-count.ensures c.loop-slot-test.true
 
 pub overflow_add-result-2 : goal.overflow_add-result-2
 overflow_add-result-2 c =

@@ -1,39 +1,58 @@
+use mathlib.Core.List.{[]}
 use mathlib.Core.Logic.{◌⊎◌, inl, inr}
 use mathlib.Core.Path.{◌≡◌, sym, ap, ◌∙◌}
 use Prim.Native.Nat.{◌+◌, ◌≤◌}
 use native.Mathlib.Omega.{arith}
-use lib.ListN.{length}
-use Rattle.commands.specs.Commands.{count, command_at}
+use lib.ListN.{length, get_or}
+use Rattle.std.specs.Prelude.{is_some, unwrap_or}
+use Rattle.commands.specs.Commands.{known, count, command_at}
+use Rattle.commands.proofs.Commands.{port_of_command}
 use Rattle.stream.proofs.UnpackLaws.{writes_for_bounds}
 use Rattle.packer.specs.Inside.{writes_of, byte_at}
 use Rattle.packer.proofs.ValueLaws.{length-writes_of, address-of}
 use Rattle.packer.proofs.PutLaws.{put_group_start, next-command, values-room}
-use Rattle.packer.proofs.PutLaws.{put_group_more, put_part, end-room, dummy-room, put_dummy, put_plain}
+use Rattle.packer.proofs.PutLaws.{put_group_more, Stored, stored_none, stored_some, end-room, dummy-room, put_dummy, put_plain}
 use Rattle.packer.proofs.put_group.Goals as goal
-use Rattle.packer.proofs.put_group.Goals.{After-count-count, Else-log-next, Left-loop-slot}
+use Rattle.packer.proofs.put_group.Goals.{After-from-count, Else-log-next, Left-loop-slot}
+use Rattle.packer.proofs.put_group.Goals.{then-count-eq0, else-count-eq0}
 use Rattle.packer.proofs.put_group.Goals.{else-loop-slot-test, then-loop-slot-test+then-log-next}
 
 pub loop-slot-init : goal.loop-slot-init
 loop-slot-init c = put_group_start c.requires
 
-pub command_of_port-byte-requires : goal.command_of_port-byte-requires
-command_of_port-byte-requires c z =
+-- at a command's port
+is-port : (c : Else-log-next)
+    → command_at (get_or (get_or c.args.log.now c.loop-slot.next []) 0 0) ≡ 0 → ⊥
+is-port c z =
     next-command c.loop-slot.invariant (omega (arith, length-writes_of c.args.log.now))
     (ap command_at (address-of c.args.log.now c.loop-slot.next c.if-log-next.false) ∙ z)
 
+pub command_of_port-byte-requires : goal.command_of_port-byte-requires
+command_of_port-byte-requires c = is-port (goal.at.command_of_port-byte-requires c).Else-log-next
+
+pub unwrap-requires : goal.unwrap-requires
+unfolding known
+unwrap-requires c =
+    let k = port_of_command _ (is-port (goal.at.unwrap-requires c).Else-log-next) in
+    ap is_some c.parameters.ensures ∙ ap known c.command_of_port-byte.ensures ∙ k.is_known
+
 -- the next command, and how many parameters it takes
-byte-is : (c : After-count-count) → c.command_of_port-byte.result ≡ byte_at (writes_of c.args.log.now) c.loop-slot.next
+byte-is : (c : After-from-count) → c.command_of_port-byte.result ≡ byte_at (writes_of c.args.log.now) c.loop-slot.next
 byte-is c =
     c.command_of_port-byte.ensures
     ∙ sym (ap command_at (address-of c.args.log.now c.loop-slot.next c.if-log-next.false))
 
-counted : (c : After-count-count)
-    → c.count-count.result ≡ count (byte_at (writes_of c.args.log.now) c.loop-slot.next)
-counted c = c.count-count.ensures ∙ ap count (byte-is c)
+counted : (c : After-from-count)
+    → c.from-count.result ≡ count (byte_at (writes_of c.args.log.now) c.loop-slot.next)
+unfolding count
+counted c =
+    c.from-count.ensures
+    ∙ ap (λ o. unwrap_or o 0) (sym c.unwrap.ensures ∙ c.parameters.ensures)
+    ∙ ap count (byte-is c)
 
 -- and there is room for them
-room : (c : After-count-count)
-    → let n = c.count-count.result in
+room : (c : After-from-count)
+    → let n = c.from-count.result in
     (c.loop-slot.next + n ≤ length (writes_of c.args.log.now)) × (c.loop-slot.end + n ≤ length c.loop-slot.buffer)
 room c =
     values-room c.loop-slot.invariant (omega (arith, length-writes_of c.args.log.now)) c.loop-slot-test.true _
@@ -41,39 +60,34 @@ room c =
 
 pub overflow_add-next : goal.overflow_add-next
 overflow_add-next c =
-    omega (arith, room (goal.at.overflow_add-next c).After-count-count, c.requires.few)
+    omega (arith, room (goal.at.overflow_add-next c).After-from-count, c.requires.few)
 
 pub slice_bounds-put_values-end : goal.slice_bounds-put_values-end
 slice_bounds-put_values-end c =
     omega (
       arith,
-      room (goal.at.slice_bounds-put_values-end c).After-count-count,
+      room (goal.at.slice_bounds-put_values-end c).After-from-count,
       length-writes_of c.args.log.now,
     )
 
-pub slice_bounds-put_values-end-in-loop-slot : goal.slice_bounds-put_values-end-in-loop-slot
-slice_bounds-put_values-end-in-loop-slot c =
-    omega (arith, room (goal.at.slice_bounds-put_values-end-in-loop-slot c).After-count-count)
-
-pub overflow_add-next-in-loop-slot : goal.overflow_add-next-in-loop-slot
-overflow_add-next-in-loop-slot c =
-    omega (
-      arith,
-      room (goal.at.overflow_add-next-in-loop-slot c).After-count-count,
-      c.writes_for-next.ensures,
-      writes_for_bounds c.count-count.result,
-      c.requires.few,
-    )
+pub slice_bounds-put_values-end-else-count-eq0 : goal.slice_bounds-put_values-end-else-count-eq0
+slice_bounds-put_values-end-else-count-eq0 c =
+    omega (arith, room (goal.at.slice_bounds-put_values-end-else-count-eq0 c).After-from-count)
 
 pub loop-slot-preserved : goal.loop-slot-preserved
 loop-slot-preserved c =
-    let here = (goal.at.loop-slot-preserved c).After-count-count in
+    let here = (goal.at.loop-slot-preserved c).After-from-count in
     let n = length-writes_of c.args.log.now in
-    let log : c.loop-slot.next + c.count-count.result ≤ length c.args.log.now = omega (arith, n, room here) in
-    rw (c.writes_for-next.ensures, byte-is here)
-    (put_group_more c.loop-slot.invariant (omega (arith, n)) c.loop-slot-test.true _ (counted here) _
-    (put_part c.loop-slot.buffer c.loop-slot.end c.args.log.now c.loop-slot.next c.count-count.result
-    c.put_values.new.words log (room here).1 c.put_values.ensures))
+    let log : c.loop-slot.next + c.from-count.result ≤ length c.args.log.now = omega (arith, n, room here) in
+    let stored : Stored (writes_of c.args.log.now) c.from-count.result c.loop-slot.next c.loop-slot.end
+        c.loop-slot.buffer c.if-count-eq0.next c.if-count-eq0.end c.if-count-eq0.buffer =
+    elim c.if-count-eq0.branch [
+      | then-count-eq0 w ↦ stored_none w.if-count-eq0.true w.next-is w.end-is w.buffer-is
+      | else-count-eq0 w ↦ stored_some c.args.log.now w.if-count-eq0.false log (room here).1 w.put_values.ensures w.next-is w.end-is
+            w.buffer-is
+    ] in
+    put_group_more c.loop-slot.invariant (omega (arith, n)) c.loop-slot-test.true _ (counted here) stored
+    (c.with_byte-word.ensures.value ∙ rw (byte-is here)) c.with_byte-word.ensures.upper_bound
 
 -- the group is full, or the log is at its end
 ways : (c : Left-loop-slot)
@@ -95,15 +109,15 @@ bounds-buffer-from c =
 
 pub bounds-buffer-end : goal.bounds-buffer-end
 bounds-buffer-end c =
-    dummy-room c.loop-slot.invariant (ways (goal.at.bounds-buffer-end c).Left-loop-slot) _ c.from_le_bytes.ensures
+    dummy-room c.loop-slot.invariant (ways (goal.at.bounds-buffer-end c).Left-loop-slot)
     c.if-none.true
 
 pub returns-then-none : goal.returns-then-none
 returns-then-none c =
-    put_dummy c.loop-slot.invariant (ways (goal.at.returns-then-none c).Left-loop-slot) _ c.from_le_bytes.ensures
+    put_dummy c.loop-slot.invariant (ways (goal.at.returns-then-none c).Left-loop-slot)
     c.if-none.true
 
 pub returns-else-none : goal.returns-else-none
 returns-else-none c =
-    put_plain c.loop-slot.invariant (ways (goal.at.returns-else-none c).Left-loop-slot) _ c.from_le_bytes.ensures
+    put_plain c.loop-slot.invariant (ways (goal.at.returns-else-none c).Left-loop-slot)
     c.if-none.false
