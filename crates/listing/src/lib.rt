@@ -44,7 +44,7 @@ impl<'a> Text<'a> {
         self.put(digits.format(n).as_bytes());
     }
 
-    // A number as eight hex digits.
+    // A number as eight hex digits. `io::hex`, since no clause rules out an error of a `write!` into a buffer.
     pub fn put_hex(&mut self, n: u32)
         requires { HasRoom self.old 8 }
         ensures { self.new ≡ with_bytes self.old (hex8 n) }
@@ -91,8 +91,8 @@ impl<'a> Text<'a> {
     // "ports" and how many, then the port writes of a log.
     #[tactic(auto, using(crate::proofs::PutLaws::put_rules), unfolding(crate::specs::Text::ports_text))]
     pub fn put_ports(&mut self, log: &[u32])
-        requires log_len_bound { length log.now ≤ longest_log }
-        requires log_in_bounds { HasRoom self.old (17 + 18 * (length log.now / 2)) }
+        requires few { length log.now ≤ longest_log }
+        requires room { HasRoom self.old (17 + 18 * (length log.now / 2)) }
         ensures { self.new ≡ with_bytes self.old (ports_text (writes log.now)) }
     {
         self.put_number_line(b"ports ", (log.len() / 2) as u32);
@@ -122,8 +122,8 @@ impl<'a> Text<'a> {
     // "words" and how many, then the words.
     #[tactic(auto, using(crate::proofs::PutLaws::put_rules), unfolding(crate::specs::Text::words_text))]
     pub fn put_words(&mut self, words: &[u32])
-        requires words_len_bound { length words.now ≤ most_words }
-        requires words_in_bounds { HasRoom self.old (17 + 9 * length words.now) }
+        requires few { length words.now ≤ most_words }
+        requires room { HasRoom self.old (17 + 9 * length words.now) }
         ensures { self.new ≡ with_bytes self.old (words_text words.now) }
     {
         self.put_number_line(b"words ", words.len() as u32);

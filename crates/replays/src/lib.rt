@@ -17,7 +17,7 @@ use engine::feed_as;
 use listing::Text;
 use readout::put_engine;
 use state::{Counts, Engine, ListAnswer};
-use stream::{is_input, longest_list};
+use stream::{Refusal, is_input, longest_list};
 use words::read_words;
 
 // What standard input holds: packed words, or a log of port writes.
@@ -129,10 +129,10 @@ fn put_replay(
 {
     let started = Engine::start(rooms.vertices, rooms.polygons);
     if started.number != 0 {
-        return text.put_refused(11, 0);
+        return text.put_refused(Refusal::NoRoom.into(), 0);
     }
     if !is_input(log, input.len()) {
-        return text.put_refused(7, 0);
+        return text.put_refused(Refusal::NoInput.into(), 0);
     }
     let mut words = longest_list();
     read_words(input, &mut words);

@@ -16,7 +16,7 @@ use stream::{Refused, longest_list, longest_log};
 
 // The words of an output: those of a list, where `log` holds, since a log was packed; else those of a log.
 fn put_output(text: &mut Text, log: bool, words: &[u32])
-    requires words_len_bound { length words.now ≤ longest_output log }
+    requires few { length words.now ≤ longest_output log }
     requires room { HasRoom text.old (longest_text log) }
     ensures { text.new ≡ with_bytes text.old (output_text log words.now) }
 {

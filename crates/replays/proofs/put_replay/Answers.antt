@@ -21,7 +21,7 @@ returns-then-started-ne0 c =
     put-as
     (rooms-refused c.args.log c.args.rooms.vertices c.args.rooms.polygons c.args.input.now c.args.vertices.now
     c.args.polygons.now c.start-started.result c.start-started.ensures c.if-started-ne0.true)
-    (refusal-put 11 c.put_refused.ensures)
+    (refusal-put 11 (rw c.into.ensures at c.put_refused.ensures))
 
 pub returns-then-not-is_input : goal.returns-then-not-is_input
 returns-then-not-is_input c =
@@ -29,7 +29,7 @@ returns-then-not-is_input c =
     (input-refused c.args.log c.args.rooms.vertices c.args.rooms.polygons c.args.input.now c.args.vertices.now
     c.args.polygons.now c.start-started.result c.start-started.ensures c.if-started-ne0.false
     (sym c.is_input.ensures ∙ c.if-not-is_input.true))
-    (refusal-put 7 c.put_refused-then-not-is_input.ensures)
+    (refusal-put 7 (rw c.into-then-not-is_input.ensures at c.put_refused-then-not-is_input.ensures))
 
 -- the input is read
 read : (c : After-read_words) → InputRead c.args.log c.args.input.now c.read_words.new.buffer
