@@ -8,7 +8,7 @@ use feeding::{polygon_buffer, vertex_buffer};
 use registers::status;
 use state::{Engine, ListAnswer, MOST_POLYGONS, MOST_VERTICES};
 use std::io;
-use stream::{is_input, longest_list};
+use stream::{Form, is_input, longest_list};
 use terminal::{input_buffer, read_full};
 use words::read_words;
 
@@ -54,7 +54,7 @@ fn print_both(rt: &impl Print, log: &[u32]) -> io::Result<()> {
 fn main(rt: HostRuntime) -> io::Result<()> {
     let mut input = input_buffer();
     let read = read_full(&mut rt.stdin(), &mut input)?;
-    if !is_input(true, read) {
+    if !is_input(Form::Log, read) {
         return print_refused(&rt, 7, 0);
     }
     let mut log = longest_list();

@@ -14,7 +14,7 @@ ghost use Rattle.execute.specs.Call.{fed_of, FirstGivenBack, words_reply, writes
 
 use feeding::{Fed, feed_items};
 use state::{Answer, Engine, ListAnswer, answered};
-use stream::{Refusal, call_number};
+use stream::{Form, Refusal, call_number};
 
 // One packed word on the engine where it stands: a command word, a parameter or a dummy. Refused with 1, 2, 4 or 3, in
 // this order; a refused call leaves the engine and both buffers as they were.
@@ -28,7 +28,7 @@ pub fn word_in_place(
         ≡ word_reply (machine_of engine.old vertices.old polygons.old) w }
     ensures given_back { (call_number result ≡ 0 → ⊥) → engine.new ≡ engine.old }
 {
-    feed_items(false, engine, &[w], vertices, polygons).refusal
+    feed_items(Form::Packed, engine, &[w], vertices, polygons).refusal
 }
 
 // The same on an engine by value; a refused call hands back the engine that it was given.
@@ -54,7 +54,7 @@ fn port_write_in_place(
         ≡ port_reply (machine_of engine.old vertices.old polygons.old) (write address value) }
     ensures given_back { (call_number result ≡ 0 → ⊥) → engine.new ≡ engine.old }
 {
-    feed_items(true, engine, &[address, value], vertices, polygons).refusal
+    feed_items(Form::Log, engine, &[address, value], vertices, polygons).refusal
 }
 
 // The same on an engine by value; a refused call hands back the engine that it was given and leaves both buffers as they
@@ -84,19 +84,19 @@ fn place_of(refusal: Option<Refusal>, taken: usize) -> usize
 
 // Words as they are, or as the port writes of a log, in one call. For the crates above.
 pub fn feed_as(
-    log: bool,
+    form: Form,
     e: Engine,
     words: &[u32],
     vertices: &mut [i32],
     polygons: &mut [u32],
 ) -> ListAnswer
     ensures reply { fed_of result vertices.new polygons.new
-        ≡ feed_as log (machine_of e vertices.old polygons.old) words.now }
+        ≡ feed_as form (machine_of e vertices.old polygons.old) words.now }
     ensures place_value { result.place ≡ place_of result.number result.taken }
     ensures first_given_back { FirstGivenBack e result }
 {
     let mut engine = e;
-    let Fed { taken, refusal } = feed_items(log, &mut engine, words, vertices, polygons);
+    let Fed { taken, refusal } = feed_items(form, &mut engine, words, vertices, polygons);
     ListAnswer {
         number: call_number(refusal),
         place: place_of(refusal, taken),
@@ -118,7 +118,7 @@ pub fn feed_words(
     ensures place_value { result.place ≡ place_of result.number result.taken }
     ensures first_given_back { FirstGivenBack e result }
 {
-    feed_as(false, e, words, vertices, polygons)
+    feed_as(Form::Packed, e, words, vertices, polygons)
 }
 
 // The port writes of a log in one call, in the same way: the other side of demand 3. A last number without a partner is
@@ -129,5 +129,5 @@ pub fn feed_writes(e: Engine, log: &[u32], vertices: &mut [i32], polygons: &mut 
     ensures place_value { result.place ≡ place_of result.number result.taken }
     ensures first_given_back { FirstGivenBack e result }
 {
-    feed_as(true, e, log, vertices, polygons)
+    feed_as(Form::Log, e, log, vertices, polygons)
 }

@@ -1,5 +1,7 @@
 -- The calls of the real engine: document 01, "Numbers a call can refuse with"; document 02, T-01.
-use Rattle.std.specs.Prelude.{Bool, cond, List, ◌≡◌, ℕ, ℤ}
+use Rattle.std.specs.Prelude.{Bool, List, ◌≡◌, ℕ, ℤ}
+use Rattle.stream.specs.declared.Form.{Form}
+use Rattle.stream.specs.declared.Form.TheVariants.{Packed, Log}
 use Rattle.stream.specs.Command.{Command, Write}
 use Rattle.stream.specs.Call.{Rules, Machine, Reply, machine, word_call, port_call}
 use Rattle.stream.specs.Feed.{Fed, fed, words_call, writes_call}
@@ -65,5 +67,6 @@ abbrev pub writes_reply : Machine (Buffered Core) → List Write → Fed (Buffer
 writes_reply = writes_call engine_rules
 
 -- words as they are, or as the port writes of a log
-abbrev pub feed_as : Bool → Machine (Buffered Core) → List ℕ → Fed (Buffered Core)
-feed_as log m ws = cond log (writes_reply m (writes ws)) (words_reply m ws)
+abbrev pub feed_as : Form → Machine (Buffered Core) → List ℕ → Fed (Buffered Core)
+feed_as Packed m ws = words_reply m ws
+feed_as Log m ws = writes_reply m (writes ws)

@@ -24,14 +24,19 @@ use registers::{
     overflow, status, vector_matrix,
 };
 use state::{Answer, Engine, ListAnswer};
-use stream::{OutputAnswer, Refusal, Refused, call_number, longest_list, longest_log};
+use stream::{Form, OutputAnswer, Refusal, Refused, call_number, longest_list, longest_log};
 use words::write_words;
 
-// A log, where `log` holds, is packed to a list; else a list is unpacked to a log. Both are bytes, little-endian words;
+// A log is packed to a list, and a packed list is unpacked to a log. Both are bytes, little-endian words;
 // `words` is lent for those of the output.
-fn convert_to(log: bool, input: &[u8], words: &mut [u32], output: &mut [u8]) -> Result<u32, Refused>
-    requires { length words.old ≡ longest_output log }
-    ensures { StoresBytes (on_all_bytes (convert log) (length output.old) input.now)
+fn convert_to(
+    form: Form,
+    input: &[u8],
+    words: &mut [u32],
+    output: &mut [u8],
+) -> Result<u32, Refused>
+    requires { length words.old ≡ longest_output form }
+    ensures { StoresBytes (on_all_bytes (convert form) (length output.old) input.now)
         (answer_to result) output.old output.new }
 {
     if output.len() % 4 != 0 {
@@ -41,7 +46,7 @@ fn convert_to(log: bool, input: &[u8], words: &mut [u32], output: &mut [u8]) -> 
         });
     }
     let capacity = (output.len() / 4).min(words.len());
-    let length = convert_bytes(log, input, &mut words[..capacity])?;
+    let length = convert_bytes(form, input, &mut words[..capacity])?;
     write_words(&words[..length as usize], output);
     Ok(length)
 }
@@ -53,7 +58,7 @@ pub extern "C" fn nauvelppi_pack(log: &[u8], output: &mut [u8]) -> OutputAnswer
         output.old output.new }
 {
     let mut list = longest_list();
-    convert_to(true, log, &mut list, output).into()
+    convert_to(Form::Log, log, &mut list, output).into()
 }
 
 // A list as bytes is unpacked to a log as bytes, little-endian words both.
@@ -63,7 +68,7 @@ pub extern "C" fn nauvelppi_unpack(list: &[u8], output: &mut [u8]) -> OutputAnsw
         output.old output.new }
 {
     let mut log = longest_log();
-    convert_to(false, list, &mut log, output).into()
+    convert_to(Form::Packed, list, &mut log, output).into()
 }
 
 // The fresh engine with these rooms: 1 to 6,144 vertices and 1 to 2,048 polygons.

@@ -5,12 +5,13 @@
 
 ghost use Rattle.std.specs.Prelude.{◌≤◌, length};
 
-use replays::{Source, room_of, source_of};
+use replays::{room_of, source_of};
 use state::{Counts, MOST_POLYGONS, MOST_VERTICES};
 use std::env::FillError;
 use std::io;
 use std::io::Write;
 use std::rt::Env;
+use stream::Form;
 use terminal::{input_buffer, read_full};
 
 // Puts argument i at the start of the buffer and answers how long it is: 0 where it is missing or longer than that.
@@ -25,12 +26,12 @@ fn is_given(rt: &impl Env, i: usize) -> bool {
     !matches!(rt.arg(i, &mut []), Err(FillError::NotPresent))
 }
 
-// What the first argument names; neither, where there are more than three.
-fn source(rt: &impl Env) -> Source {
+// The form that the first argument names; none, where there are more than three arguments.
+fn source(rt: &impl Env) -> Option<Form> {
     let mut name = [0u8; 8];
     let length = argument(rt, 1, &mut name);
     if is_given(rt, 4) {
-        return Source::Neither;
+        return None;
     }
     source_of(&name[..length])
 }

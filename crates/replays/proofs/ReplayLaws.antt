@@ -9,6 +9,8 @@ use lib.IntN.{ℤ}
 use lib.ListN.{length}
 use borrow.Author.Tests.{eq-eqb, ne_eqb, le-leb}
 use Rattle.words.specs.Words.{words_of}
+use Rattle.stream.specs.declared.Form.{Form}
+use Rattle.stream.specs.declared.Form.TheVariants.{Packed, Log}
 use Rattle.stream.specs.Call.{Machine}
 use Rattle.stream.specs.Read.{writes}
 use Rattle.stream.specs.Input.{is_input}
@@ -36,9 +38,9 @@ use Rattle.listing.specs.Buffer.{with_bytes}
 use Rattle.replays.specs.Replay.{refusal_text, ran, replay}
 use Rattle.replays.specs.Inside.{PutsReport}
 
-pub run-taken : (log : Bool) (m : Machine (Buffered Core)) (ws : List ℕ) → (feed_as log m ws).taken ≤ length ws
-run-taken true m ws = omega (arith, list-within engine_rules port_step m (writes ws), length-writes ws)
-run-taken false m ws = list-within engine_rules word_step m ws
+pub run-taken : (form : Form) (m : Machine (Buffered Core)) (ws : List ℕ) → (feed_as form m ws).taken ≤ length ws
+run-taken Log m ws = omega (arith, list-within engine_rules port_step m (writes ws), length-writes ws)
+run-taken Packed m ws = list-within engine_rules word_step m ws
 
 -- what a run leaves
 pub record RunKept (e : Engine) (vertices : List ℤ) (polygons : List ℕ) (r : ListAnswer) (vs : List ℤ) (ps : List ℕ)
@@ -58,25 +60,25 @@ run-kept-by e vertices polygons r vs ps count k h =
       long = rw (k.rooms, k.vertices-length, k.polygons-length);
     }
 
-pub run-kept : (log : Bool) (e : Engine) (vertices : List ℤ) (polygons : List ℕ) → sound e ≡ true
+pub run-kept : (form : Form) (e : Engine) (vertices : List ℤ) (polygons : List ℕ) → sound e ≡ true
     → (ws : List ℕ) (r : ListAnswer) (vs : List ℤ) (ps : List ℕ)
-    → fed_of r vs ps ≡ feed_as log (machine_of e vertices polygons) ws
+    → fed_of r vs ps ≡ feed_as form (machine_of e vertices polygons) ws
     → RunKept e vertices polygons r vs ps (length ws)
-run-kept true e vertices polygons h ws r vs ps told =
+run-kept Log e vertices polygons h ws r vs ps told =
     run-kept-by e vertices polygons r vs ps (length ws)
     (list-kept e vertices polygons h port_step (kept-by-port e vertices polygons) (writes ws) r vs ps told)
     (omega (
       arith,
       ap (λ (f : Fed (Buffered Core)). f.taken) told,
-      run-taken true (machine_of e vertices polygons) ws,
+      run-taken Log (machine_of e vertices polygons) ws,
     ))
-run-kept false e vertices polygons h ws r vs ps told =
+run-kept Packed e vertices polygons h ws r vs ps told =
     run-kept-by e vertices polygons r vs ps (length ws)
     (list-kept e vertices polygons h word_step (kept-by-word e vertices polygons) ws r vs ps told)
     (omega (
       arith,
       ap (λ (f : Fed (Buffered Core)). f.taken) told,
-      run-taken false (machine_of e vertices polygons) ws,
+      run-taken Packed (machine_of e vertices polygons) ws,
     ))
 
 -- ---- the line of a refusal
@@ -113,10 +115,10 @@ always_long e h =
     )
 
 -- a is what the start answered
-module _ (log : Bool) (v p : ℕ) (input : List ℕ) (vertices : List ℤ) (polygons : List ℕ) (a : Answer)
+module _ (form : Form) (v p : ℕ) (input : List ℕ) (vertices : List ℤ) (polygons : List ℕ) (a : Answer)
     (told : a ≡ start v p) where
   pub rooms-refused : (a.number ≡ 0 → ⊥)
-      → buffered (refused_line 11 0) vertices polygons ≡ replay log v p input vertices polygons
+      → buffered (refused_line 11 0) vertices polygons ≡ replay form v p input vertices polygons
   unfolding replay
   rooms-refused d = rw (ne_eqb (start v p).number 0 (λ z. d (ap (λ (x : Answer). x.number) told ∙ z)))
 
@@ -124,13 +126,13 @@ module _ (log : Bool) (v p : ℕ) (input : List ℕ) (vertices : List ℤ) (poly
     started : eqb (start v p).number 0 ≡ true
     started = eq-eqb (start v p).number 0 (ap (λ (x : Answer). x.number) (sym told) ∙ z)
 
-    pub input-refused : is_input log (length input) ≡ false
-        → buffered (refused_line 7 0) vertices polygons ≡ replay log v p input vertices polygons
+    pub input-refused : is_input form (length input) ≡ false
+        → buffered (refused_line 7 0) vertices polygons ≡ replay form v p input vertices polygons
     unfolding replay
     input-refused f = rw (started, f)
 
-    pub replay-ran : is_input log (length input) ≡ true → (ws : List ℕ) → ws ≡ words_of input
-        → ran (feed_as log (machine_of a.engine vertices polygons) ws) ≡ replay log v p input vertices polygons
+    pub replay-ran : is_input form (length input) ≡ true → (ws : List ℕ) → ws ≡ words_of input
+        → ran (feed_as form (machine_of a.engine vertices polygons) ws) ≡ replay form v p input vertices polygons
     unfolding replay
     replay-ran t ws e = rw (started, t, told, e)
 

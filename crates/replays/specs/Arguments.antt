@@ -1,8 +1,9 @@
 -- What the arguments of the program `replay` say.
 use Rattle.std.specs.Prelude.{Bool, true, false, cond, ◌&&◌, List, [], ◌∷◌, ℕ, ◌+◌, ◌*◌, ◌-◌, eqb, leb, length}
+use Rattle.std.specs.Prelude.{Option, Some, None}
 use Rattle.listing.specs.Text.{ascii}
-use Rattle.replays.specs.declared.Source.{Source}
-use Rattle.replays.specs.declared.Source.TheVariants.{List as WordList, Log, Neither}
+use Rattle.stream.specs.declared.Form.{Form}
+use Rattle.stream.specs.declared.Form.TheVariants.{Packed, Log}
 
 -- whether two texts have the same bytes
 abbrev pub same_bytes : List ℕ → List ℕ → Bool
@@ -11,10 +12,10 @@ same_bytes [] (y ∷ ys) = false
 same_bytes (x ∷ xs) [] = false
 same_bytes (x ∷ xs) (y ∷ ys) = eqb x y && same_bytes xs ys
 
--- the source that an argument names
-unfoldable pub source_of : List ℕ → Source
+-- the form of the input that an argument names
+unfoldable pub source_of : List ℕ → Option Form
 source_of name =
-    cond (same_bytes name (ascii "list")) WordList (cond (same_bytes name (ascii "log")) Log Neither)
+    cond (same_bytes name (ascii "list")) (Some Packed) (cond (same_bytes name (ascii "log")) (Some Log) None)
 
 -- whether a byte is a decimal digit: `0` is 48, `9` is 57
 unfoldable pub is_digit : ℕ → Bool

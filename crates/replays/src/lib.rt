@@ -17,27 +17,19 @@ use engine::feed_as;
 use listing::Text;
 use readout::put_engine;
 use state::{Counts, Engine, ListAnswer};
-use stream::{Refusal, is_input, longest_list};
+use stream::{Form, Refusal, is_input, longest_list};
 use words::read_words;
 
-// What standard input holds: packed words, or a log of port writes.
-#[derive(Clone, Copy, Debug, PartialEq, Eq)]
-pub enum Source {
-    List,
-    Log,
-    Neither,
-}
-
-// The source that an argument names.
-pub fn source_of(name: &[u8]) -> Source
+// The form of the input that an argument names: packed words, or a log of port writes.
+pub fn source_of(name: &[u8]) -> Option<Form>
     ensures { result ≡ source_of name.now }
 {
     if name == b"list".as_slice() {
-        Source::List
+        Some(Form::Packed)
     } else if name == b"log".as_slice() {
-        Source::Log
+        Some(Form::Log)
     } else {
-        Source::Neither
+        None
     }
 }
 
@@ -97,7 +89,7 @@ fn put_fed(text: &mut Text, fed: &ListAnswer, vertices: &[i32], polygons: &[u32]
 // A run, and its report.
 fn put_run(
     text: &mut Text,
-    log: bool,
+    form: Form,
     e: Engine,
     words: &[u32],
     vertices: &mut [i32],
@@ -107,38 +99,38 @@ fn put_run(
     requires buffers_long { long_enough e.core.registers.geometry.rooms (length vertices.old) (length polygons.old)
         ≡ true }
     requires room { HasRoom text.old 433649 }
-    ensures { PutsReport (ran (feed_as log (machine_of e vertices.old polygons.old) words.now))
+    ensures { PutsReport (ran (feed_as form (machine_of e vertices.old polygons.old) words.now))
         text.old text.new vertices.new polygons.new }
 {
-    let fed = feed_as(log, e, words, &mut *vertices, &mut *polygons);
+    let fed = feed_as(form, e, words, &mut *vertices, &mut *polygons);
     put_fed(text, &fed, vertices, polygons);
 }
 
 // The run of an input on an engine that is started with these rooms, and its report.
 fn put_replay(
     text: &mut Text,
-    log: bool,
+    form: Form,
     rooms: Counts,
     input: &[u8],
     vertices: &mut [i32; 30720],
     polygons: &mut [u32; 6144],
 )
     requires { HasRoom text.old 433649 }
-    ensures { PutsReport (replay log rooms.vertices rooms.polygons input.now vertices.old polygons.old)
+    ensures { PutsReport (replay form rooms.vertices rooms.polygons input.now vertices.old polygons.old)
         text.old text.new vertices.new polygons.new }
 {
     let started = Engine::start(rooms.vertices, rooms.polygons);
     if started.number != 0 {
         return text.put_refused(Refusal::NoRoom.into(), 0);
     }
-    if !is_input(log, input.len()) {
+    if !is_input(form, input.len()) {
         return text.put_refused(Refusal::NoInput.into(), 0);
     }
     let mut words = longest_list();
     read_words(input, &mut words);
     put_run(
         text,
-        log,
+        form,
         started.engine,
         &words[..input.len() / 4],
         vertices,
@@ -149,7 +141,7 @@ fn put_replay(
 // The report of a source.
 fn put_report(
     text: &mut Text,
-    source: Source,
+    source: Option<Form>,
     rooms: Counts,
     input: &[u8],
     vertices: &mut [i32; 30720],
@@ -160,15 +152,14 @@ fn put_report(
         text.old text.new vertices.new polygons.new }
 {
     match source {
-        Source::List => put_replay(text, false, rooms, input, vertices, polygons),
-        Source::Log => put_replay(text, true, rooms, input, vertices, polygons),
-        Source::Neither => text.put(b"usage: replay list|log [VERTICES POLYGONS]\n"),
+        Some(form) => put_replay(text, form, rooms, input, vertices, polygons),
+        None => text.put(b"usage: replay list|log [VERTICES POLYGONS]\n"),
     }
 }
 
 // What the program `replay` writes, from the buffer's first byte on; how many bytes that is.
 pub fn replay_report(
-    source: Source,
+    source: Option<Form>,
     rooms: Counts,
     input: &[u8],
     vertices: &mut [i32; 30720],

@@ -12,32 +12,30 @@ ghost use Rattle.reports.specs.Inside.{output_text, longest_text, report_of};
 
 use conversions::convert_bytes;
 use listing::Text;
-use stream::{Refused, longest_list, longest_log};
+use stream::{Form, Refused, longest_list, longest_log};
 
-// The words of an output: those of a list, where `log` holds, since a log was packed; else those of a log.
-fn put_output(text: &mut Text, log: bool, words: &[u32])
-    requires few { length words.now ≤ longest_output log }
-    requires room { HasRoom text.old (longest_text log) }
-    ensures { text.new ≡ with_bytes text.old (output_text log words.now) }
+// The words that an input was converted to: those of a list, since a log was packed; or those of a log.
+fn put_output(text: &mut Text, form: Form, words: &[u32])
+    requires few { length words.now ≤ longest_output form }
+    requires room { HasRoom text.old (longest_text form) }
+    ensures { text.new ≡ with_bytes text.old (output_text form words.now) }
 {
-    if log {
-        text.put_words(words);
-    } else {
-        text.put_ports(words);
+    match form {
+        Form::Packed => text.put_ports(words),
+        Form::Log => text.put_words(words),
     }
 }
 
-// The report of an input, a log to be packed where `log` holds, else a list to be unpacked; `words` is lent for the
-// output.
-fn put_report(text: &mut Text, log: bool, input: &[u8], words: &mut [u32])
-    requires words_len { length words.old ≡ longest_output log }
-    requires room { HasRoom text.old (longest_text log) }
-    ensures puts { text.new ≡ with_bytes text.old (report_of log input.now) }
-    ensures within { text.new.length ≤ text.old.length + longest_text log }
+// The report of an input, a log to be packed or a list to be unpacked; `words` is lent for the output.
+fn put_report(text: &mut Text, form: Form, input: &[u8], words: &mut [u32])
+    requires words_len { length words.old ≡ longest_output form }
+    requires room { HasRoom text.old (longest_text form) }
+    ensures puts { text.new ≡ with_bytes text.old (report_of form input.now) }
+    ensures within { text.new.length ≤ text.old.length + longest_text form }
 {
-    match convert_bytes(log, input, &mut *words) {
+    match convert_bytes(form, input, &mut *words) {
         Err(Refused { refusal, place }) => text.put_refused(refusal.into(), place),
-        Ok(length) => put_output(text, log, &words[..length as usize]),
+        Ok(length) => put_output(text, form, &words[..length as usize]),
     }
 }
 
@@ -57,7 +55,7 @@ pub fn unpack_report(input: &[u8], text: &mut [u8; 294929]) -> usize
 {
     let mut log = longest_log();
     let mut report = Text::new(text);
-    put_report(&mut report, false, input, &mut log);
+    put_report(&mut report, Form::Packed, input, &mut log);
     report.length
 }
 
@@ -77,6 +75,6 @@ pub fn pack_report(input: &[u8], text: &mut [u8; 73745]) -> usize
 {
     let mut list = longest_list();
     let mut report = Text::new(text);
-    put_report(&mut report, true, input, &mut list);
+    put_report(&mut report, Form::Log, input, &mut list);
     report.length
 }

@@ -1,5 +1,7 @@
 -- Which bytes are an input: document 01, "Numbers a call can refuse with".
-use Rattle.std.specs.Prelude.{Bool, cond, ◌&&◌, ℕ, ◌*◌, ◌%◌, leb, eqb}
+use Rattle.std.specs.Prelude.{Bool, ◌&&◌, ℕ, ◌*◌, ◌%◌, leb, eqb}
+use Rattle.stream.specs.declared.Form.{Form}
+use Rattle.stream.specs.declared.Form.TheVariants.{Packed, Log}
 
 -- how many words a log or a list has at most: 7, "log of odd length or over 8,192 words; list over 8,192 words"; 9,
 -- "packed list would pass 8,192 words"
@@ -14,11 +16,12 @@ most_bytes = 4 * most_words
 abbrev pub longest_log : ℕ
 longest_log = 4 * most_words
 
--- how many bytes an item takes: a port write, where the input is a log, is two words; else it is packed words
-abbrev pub item_size : Bool → ℕ
-item_size log = cond log 8 4
+-- how many bytes an item takes: a packed word is one, a port write two words
+abbrev pub item_size : Form → ℕ
+item_size Packed = 4
+item_size Log = 8
 
 -- so many bytes are an input. 7: "log of odd length or over 8,192 words; list over 8,192 words; byte slice or file not
 -- whole words" (reading 23)
-unfoldable pub is_input : Bool → ℕ → Bool
-is_input log size = eqb (size % item_size log) 0 && leb size most_bytes
+unfoldable pub is_input : Form → ℕ → Bool
+is_input form size = eqb (size % item_size form) 0 && leb size most_bytes

@@ -3,6 +3,8 @@ use Rattle.std.specs.Prelude.{Bool, true, false, cond, ◌||◌, List, [], ◌�
 use Rattle.std.specs.Prelude.{Some, None}
 use Rattle.std.proofs.lemmas.List.Edits.{sets}
 use Rattle.commands.specs.Commands.{known, count, command_at, command_bytes, hole}
+use Rattle.stream.specs.declared.Form.{Form}
+use Rattle.stream.specs.declared.Form.TheVariants.{Packed, Log}
 use Rattle.stream.specs.Refusal.{call_number}
 use Rattle.stream.specs.Pending.{Pending, queued, commands_of}
 use Rattle.stream.specs.Command.{takes_none, Command, command, Write, write}
@@ -116,14 +118,15 @@ pub record Turned {A : Type 0} (step : Pending → A → Step) (items : List A) 
 -- ---- packed words, or port writes
 
 -- how many items so many words are: a port write is two
-abbrev pub items_in : Bool → ℕ → ℕ
-items_in log size = cond log (size / 2) size
+abbrev pub items_in : Form → ℕ → ℕ
+items_in Packed size = size
+items_in Log size = size / 2
 
 -- port write i of a log
 abbrev pub pair_at : List ℕ → ℕ → Write
 pair_at ws i = write (get_or ws (2 * i) 0) (get_or ws (2 * i + 1) 0)
 
 -- a turn over the words as they are, or as the port writes of a log
-abbrev pub TurnedAs : Bool → List ℕ → ℕ → Begun → List ℕ → Turn → List ℕ → Type 0
-TurnedAs true ws = Turned port_step (writes ws)
-TurnedAs false ws = Turned word_step ws
+abbrev pub TurnedAs : Form → List ℕ → ℕ → Begun → List ℕ → Turn → List ℕ → Type 0
+TurnedAs Packed ws = Turned word_step ws
+TurnedAs Log ws = Turned port_step (writes ws)

@@ -7,10 +7,11 @@ ghost use Rattle.commands.specs.Commands.{known};
 ghost use Rattle.stream.specs.Command.{write};
 ghost use Rattle.stream.specs.Read.{writes};
 ghost use Rattle.stream.specs.Step.{word_step, port_step};
+ghost use Rattle.stream.specs.declared.Form.TheVariants.{Log};
 ghost use Rattle.turns.specs.Inside.{Fit, Turned, due_of, is_packed, Held, Writable, items_in, TurnedAs, command_in};
 
 use commands::{command_at, command_bytes, count, has_hole, is_known};
-use stream::Refusal;
+use stream::{Form, Refusal};
 
 // What is pending but for the parameters that are held: `count` of them. Commands at the front of `queue` that take
 // none are still to run; `dummy`, with nothing queued: the dummy word is due. Port 0 is none, as in the record for C.
@@ -247,21 +248,21 @@ pub fn is_packed(b: Begun) -> bool
 
 // A turn over the items from the i-th on; `packed`, for a log: a packed word is pending. For the crates above this one.
 pub fn turn_at(
-    log: bool,
+    form: Form,
     packed: bool,
     b: Begun,
     words: &[u32],
     i: usize,
     held: &mut [u32; 32],
 ) -> Turn
-    requires fit { Fit b × (i ≤ items_in log (length words.now)) }
-    requires not_due { log ≡ true → (due_of b ≡ []) × (packed ≡ is_packed b) }
-    ensures turned_as { TurnedAs log words.now i b held.old result held.new }
-    ensures queue_bounded { (log ≡ true → (result.begun.queue ≡ b.queue) × (result.begun.dummy ≡ b.dummy))
+    requires fit { Fit b × (i ≤ items_in form (length words.now)) }
+    requires not_due { form ≡ Log → (due_of b ≡ []) × (packed ≡ is_packed b) }
+    ensures turned_as { TurnedAs form words.now i b held.old result held.new }
+    ensures queue_bounded { (form ≡ Log → (result.begun.queue ≡ b.queue) × (result.begun.dummy ≡ b.dummy))
         × (command_in result.outcome < 256) × (result.begun.queue < 4294967296) }
 {
-    if log {
-        return write_turn(packed, b, words, i, held);
+    match form {
+        Form::Packed => word_turn(b, words, i, held),
+        Form::Log => write_turn(packed, b, words, i, held),
     }
-    word_turn(b, words, i, held)
 }

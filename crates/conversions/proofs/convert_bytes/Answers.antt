@@ -13,14 +13,14 @@ use Rattle.conversions.proofs.convert_bytes.Goals.{After-read_words}
 pub returns-then-not-is_input : goal.returns-then-not-is_input
 returns-then-not-is_input c =
     stores-none 7 0 _ c.args.output.now
-    (input-refused c.args.log (length c.args.output.now) c.args.input.now
+    (input-refused c.args.form (length c.args.output.now) c.args.input.now
     (sym c.is_input.ensures ∙ c.if-not-is_input.true))
     refl
 
 -- the input is read
-read : (c : After-read_words) → InputRead c.args.log c.args.input.now c.read_words.new.buffer
+read : (c : After-read_words) → InputRead c.args.form c.args.input.now c.read_words.new.buffer
 read c =
-    input-read c.args.log c.args.input.now c.longest_list-words.result c.read_words.new.buffer
+    input-read c.args.form c.args.input.now c.longest_list-words.result c.read_words.new.buffer
     (sym c.is_input.ensures ∙ c.if-not-is_input.false) c.longest_list-words.ensures
     c.read_words.ensures
 
@@ -37,5 +37,5 @@ returns c =
     let n = length c.args.output.now in
     let r = read (goal.at.returns c).After-read_words in
     subst (λ (o : Output). Stores o (answer_to c.convert_words.result) c.args.output.now c.convert_words.new.output)
-    (ap (convert c.args.log n) r.words ∙ sym (input_converted c.args.log n c.args.input.now r.is-input))
+    (ap (convert c.args.form n) r.words ∙ sym (input_converted c.args.form n c.args.input.now r.is-input))
     c.convert_words.ensures

@@ -32,10 +32,10 @@ use Rattle.feeding.proofs.run_turns.Goals.{After-turn_at-turn}
 
 module _ (c : After-turn_at-turn) (more : has_ended c.turn_at-turn.result.outcome ≡ false) where
   -- fewer items or commands are to come
-  less : to_come (items_in c.args.log (length c.args.words.now)) c.turn_at-turn.result.next c.turn_at-turn.result.begun
-      < to_come (items_in c.args.log (length c.args.words.now)) c.loop-command.taken c.loop-command.begun
+  less : to_come (items_in c.args.form (length c.args.words.now)) c.turn_at-turn.result.next c.turn_at-turn.result.begun
+      < to_come (items_in c.args.form (length c.args.words.now)) c.loop-command.taken c.loop-command.begun
   less =
-      turn-less c.args.log c.args.words.now c.loop-command.taken c.loop-command.begun c.loop-command.engine.stream.held
+      turn-less c.args.form c.args.words.now c.loop-command.taken c.loop-command.begun c.loop-command.engine.stream.held
       c.turn_at-turn.result c.turn_at-turn.new.held c.turn_at-turn.ensures.turned_as more
 
   -- the parameters that are held, and the core and the buffers, after the turn
@@ -49,7 +49,7 @@ module _ (c : After-turn_at-turn) (more : has_ended c.turn_at-turn.result.outcom
   again : (k : Core) (vs : List ℤ) (ps : List ℕ) (clip : Option (List ℤ))
       → buffered k vs ps ≡ execute (command_in c.turn_at-turn.result.outcome) held before-it
       → IfSome clip (λ m. m ≡ clip_of k.registers.transform)
-      → Feeding c.args.engine.now c.args.vertices.now c.args.polygons.now c.args.log c.is_packed-packed.result
+      → Feeding c.args.engine.now c.args.vertices.now c.args.polygons.now c.args.form c.is_packed-packed.result
       c.args.words.now c.turn_at-turn.result.next c.turn_at-turn.result.begun held k vs ps clip
   again k vs ps clip ran clip_is =
       let l = c.loop-command in
@@ -58,12 +58,12 @@ module _ (c : After-turn_at-turn) (more : has_ended c.turn_at-turn.result.outcom
       let small = call.ensures.queue_bounded in
       record {
         looping = looping-ran a.engine.now a.vertices.now a.polygons.now c.requires a.words.now l.taken l.begun
-            l.engine.stream.held before-it call.result held a.log l.invariant.looping call.ensures.turned_as small.0
+            l.engine.stream.held before-it call.result held a.form l.invariant.looping call.ensures.turned_as small.0
             small.1 (buffered k vs ps) ran;
         clip_is = clip_is;
-        held-long = same_size a.log a.words.now l.taken l.begun l.engine.stream.held call.result held
+        held-long = same_size a.form a.words.now l.taken l.begun l.engine.stream.held call.result held
             call.ensures.turned_as ∙ l.invariant.held-long;
-        untouched = λ z. absurd (goes_on a.log a.words.now l.taken l.begun l.engine.stream.held call.result held
+        untouched = λ z. absurd (goes_on a.form a.words.now l.taken l.begun l.engine.stream.held call.result held
             call.ensures.turned_as more (λ none. (l.invariant.untouched none).0) z);
       }
 
@@ -74,7 +74,7 @@ loop-command-init c =
     let small : e.stream.queue < 2 ^ 32 = search rules in
     rw begun.value
     (record {
-      looping = looping-first e c.args.vertices.now c.args.polygons.now c.requires c.args.log
+      looping = looping-first e c.args.vertices.now c.args.polygons.now c.requires c.args.form
           c.is_packed-packed.result c.args.words.now begun.held_len small
           (c.is_packed-packed.ensures ∙ ap is_packed begun.value);
       clip_is = tt;
@@ -135,16 +135,16 @@ returns-in-Ends c =
           l.polygons)) c.put_begun.ensures
           ∙ ap (λ (p : Pending). fed r.next (call_number c.in-Ends.refusal) (machine t p))
           (end-pending r.begun new told.queue_bounded.2
-          (end-fit e a.vertices.now a.polygons.now c.requires a.words.now l.taken l.begun old t r new a.log
+          (end-fit e a.vertices.now a.polygons.now c.requires a.words.now l.taken l.begun old t r new a.form
           told.turned_as)
-          (end-due e a.vertices.now a.polygons.now c.requires a.words.now l.taken l.begun old t r new a.log
+          (end-due e a.vertices.now a.polygons.now c.requires a.words.now l.taken l.begun old t r new a.form
           told.turned_as end) _ refl)
           ∙ ap (λ (n : ℕ). fed r.next n (machine t (pending_due r.begun new))) number
-          ∙ ended_as e a.vertices.now a.polygons.now c.requires a.words.now l.taken l.begun old t r new a.log
+          ∙ ended_as e a.vertices.now a.polygons.now c.requires a.words.now l.taken l.begun old t r new a.form
           l.invariant.looping told.turned_as end;
       given_back = λ n z.
           ap (engine_from k) c.put_begun.ensures
-          ∙ ended_untouched e a.vertices.now a.polygons.now c.requires a.words.now l.taken l.begun old t r new a.log
+          ∙ ended_untouched e a.vertices.now a.polygons.now c.requires a.words.now l.taken l.begun old t r new a.form
           told.turned_as end (λ q. n (number ∙ q)) z k l.invariant.untouched l.invariant.held-long
           told.queue_bounded.2;
     }

@@ -5,8 +5,8 @@ use Rattle.feeding.proofs.run_turns.Given as goal
 
 abbrev pub invariant-loop-command : goal.invariant-loop-command
 invariant-loop-command l =
-    Feeding l.initial.engine l.initial.vertices l.initial.polygons l.log l.packed l.words l.taken l.begun
+    Feeding l.initial.engine l.initial.vertices l.initial.polygons l.form l.packed l.words l.taken l.begun
     l.engine.stream.held l.engine.core l.vertices l.polygons l.clip
 
 abbrev pub decreases-loop-command : goal.decreases-loop-command
-decreases-loop-command l = to_come (items_in l.log (length l.words)) l.taken l.begun
+decreases-loop-command l = to_come (items_in l.form (length l.words)) l.taken l.begun

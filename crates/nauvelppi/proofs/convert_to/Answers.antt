@@ -13,11 +13,11 @@ use Rattle.nauvelppi.proofs.convert_to.Goals.{After-convert_bytes}
 
 pub returns-then-output-ne0 : goal.returns-then-output-ne0
 returns-then-output-ne0 c =
-    refused-output (convert c.args.log) c.args.input.now c.args.output.now _ c.if-output-ne0.true refl
+    refused-output (convert c.args.form) c.args.input.now c.args.output.now _ c.if-output-ne0.true refl
 
 -- the call of the conversion, and what it came to
 made : (c : After-convert_bytes) (r : Result ℕ Refused) → c.convert_bytes.result ≡ r
-    → Made c.args.log (length c.args.output.now) c.args.input.now c.args.words.now c.convert_bytes.new.output
+    → Made c.args.form (length c.args.output.now) c.args.input.now c.args.words.now c.convert_bytes.new.output
     c.min-capacity.result (answer_to r)
 made c r e =
     record {

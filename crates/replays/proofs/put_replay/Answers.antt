@@ -19,22 +19,22 @@ sounds c =
 pub returns-then-started-ne0 : goal.returns-then-started-ne0
 returns-then-started-ne0 c =
     put-as
-    (rooms-refused c.args.log c.args.rooms.vertices c.args.rooms.polygons c.args.input.now c.args.vertices.now
+    (rooms-refused c.args.form c.args.rooms.vertices c.args.rooms.polygons c.args.input.now c.args.vertices.now
     c.args.polygons.now c.start-started.result c.start-started.ensures c.if-started-ne0.true)
     (refusal-put 11 (rw c.into.ensures at c.put_refused.ensures))
 
 pub returns-then-not-is_input : goal.returns-then-not-is_input
 returns-then-not-is_input c =
     put-as
-    (input-refused c.args.log c.args.rooms.vertices c.args.rooms.polygons c.args.input.now c.args.vertices.now
+    (input-refused c.args.form c.args.rooms.vertices c.args.rooms.polygons c.args.input.now c.args.vertices.now
     c.args.polygons.now c.start-started.result c.start-started.ensures c.if-started-ne0.false
     (sym c.is_input.ensures ∙ c.if-not-is_input.true))
     (refusal-put 7 (rw c.into-then-not-is_input.ensures at c.put_refused-then-not-is_input.ensures))
 
 -- the input is read
-read : (c : After-read_words) → InputRead c.args.log c.args.input.now c.read_words.new.buffer
+read : (c : After-read_words) → InputRead c.args.form c.args.input.now c.read_words.new.buffer
 read c =
-    input-read c.args.log c.args.input.now c.longest_list-words.result c.read_words.new.buffer
+    input-read c.args.form c.args.input.now c.longest_list-words.result c.read_words.new.buffer
     (sym c.is_input.ensures ∙ c.if-not-is_input.false) c.longest_list-words.ensures
     c.read_words.ensures
 
@@ -61,6 +61,6 @@ pub returns : goal.returns
 returns c =
     let r = read (goal.at.returns c).After-read_words in
     put-as
-    (replay-ran c.args.log c.args.rooms.vertices c.args.rooms.polygons c.args.input.now c.args.vertices.now
+    (replay-ran c.args.form c.args.rooms.vertices c.args.rooms.polygons c.args.input.now c.args.vertices.now
     c.args.polygons.now c.start-started.result c.start-started.ensures c.if-started-ne0.false r.is-input _ r.words)
     c.put_run.ensures

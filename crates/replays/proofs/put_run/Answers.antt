@@ -12,7 +12,7 @@ use Rattle.replays.proofs.put_run.Goals.{After-feed_as-fed}
 kept : (c : After-feed_as-fed) → RunKept c.args.e c.args.vertices.now c.args.polygons.now c.feed_as-fed.result c.feed_as-fed.new.vertices
     c.feed_as-fed.new.polygons (length c.args.words.now)
 kept c =
-    run-kept c.args.log c.args.e c.args.vertices.now c.args.polygons.now c.requires.sound.0 c.args.words.now
+    run-kept c.args.form c.args.e c.args.vertices.now c.args.polygons.now c.requires.sound.0 c.args.words.now
     c.feed_as-fed.result _ _ c.feed_as-fed.ensures.reply
 
 pub put_fed-requires-clause-sound : goal.put_fed-requires-clause-sound

@@ -8,9 +8,9 @@ use Rattle.reports.proofs.put_report.Goals as goal
 use Rattle.reports.proofs.put_report.Goals.{In-Ok}
 
 -- what the call left
-left : (c : In-Ok) → Answered c.args.log c.args.input.now c.in-Ok.length c.convert_bytes.new.output
+left : (c : In-Ok) → Answered c.args.form c.args.input.now c.in-Ok.length c.convert_bytes.new.output
 left c =
-    answered c.args.log c.args.input.now c.in-Ok.length c.requires.words_len c.in-Ok.ensures
+    answered c.args.form c.args.input.now c.in-Ok.length c.requires.words_len c.in-Ok.ensures
     c.convert_bytes.auto.output
 
 pub slice_bounds-put_output-end : goal.slice_bounds-put_output-end
@@ -29,6 +29,6 @@ returns-in-Ok-clause-within c =
     rw c.put_output.ensures
     (omega (
       arith,
-      length-with_bytes c.args.text.now (output_text c.args.log words),
-      text-fits c.args.log words (omega (arith, l.lent, l.few)),
+      length-with_bytes c.args.text.now (output_text c.args.form words),
+      text-fits c.args.form words (omega (arith, l.lent, l.few)),
     ))

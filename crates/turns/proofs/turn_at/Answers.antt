@@ -1,7 +1,7 @@
 use Rattle.turns.proofs.turn_at.Goals as goal
 
-pub returns-then-log-clause-turned_as : goal.returns-then-log-clause-turned_as
-returns-then-log-clause-turned_as c = rw c.if-log.true c.write_turn.ensures.turned
+pub returns-in-Packed-clause-turned_as : goal.returns-in-Packed-clause-turned_as
+returns-in-Packed-clause-turned_as c = rw c.in-Packed.is c.word_turn.ensures
 
-pub returns-clause-turned_as : goal.returns-clause-turned_as
-returns-clause-turned_as c = rw c.if-log.false c.word_turn.ensures
+pub returns-in-Log-clause-turned_as : goal.returns-in-Log-clause-turned_as
+returns-in-Log-clause-turned_as c = rw c.in-Log.is c.write_turn.ensures.turned
