@@ -10,7 +10,7 @@ use lowbits::{bits32, signed32};
 
 // A sum of products in parts: what counts from bit 32 on, from bit 16 on and from bit 0 on, and the sum of the factors
 // that are in offset binary.
-#[derive(Clone, Copy)]
+#[derive(Clone, Copy, Debug, PartialEq, Eq)]
 pub struct Sum {
     pub upper: u32,
     pub middle: u32,
@@ -19,6 +19,7 @@ pub struct Sum {
 }
 
 // A number in offset binary, a + 2^31: its halves have no sign.
+#[tactic(auto, using(crate::proofs::Sums::from_bits))]
 pub fn offset(a: i32) -> u32
     ensures { number result ≡ a }
 {
@@ -90,6 +91,7 @@ pub fn no_product() -> Sum
 
 // The sum and a product of two numbers in offset binary. The lower product is split again, so that the lower parts'
 // sum does not wrap. For the crates above.
+#[tactic(auto, using(crate::proofs::Sums::plus))]
 pub fn plus_product(s: Sum, x: u32, a: u32) -> Sum
     requires { s.lower < 2 ^ 20 }
     ensures result_value { sum_of result ≡ (sum_of s + low_bits 48 (number x *ℤ number a)) % 2 ^ 48 }
@@ -106,6 +108,7 @@ pub fn plus_product(s: Sum, x: u32, a: u32) -> Sum
 
 // A product of two numbers in offset binary, alone: nothing is added up, so the upper product joins the middle ones and
 // the lower one stays whole.
+#[tactic(auto, using(crate::proofs::Sums::alone))]
 pub fn one_product(x: u32, a: u32) -> Sum
     ensures { sum_of result ≡ low_bits 48 (number x *ℤ number a) }
 {
@@ -156,6 +159,7 @@ pub fn plus_short(s: Sum, x: i16, a: i32) -> Sum
 }
 
 // The sum, divided by 4096 rounding down, its low 32 bits as a signed number.
+#[tactic(auto, using(crate::proofs::Sums::rounds), unfolding(lowbits::specs::Bits::low_bits))]
 pub fn rounded_sum(s: Sum) -> i32
     ensures { result ≡ signed_low 32 (pos (sum_of s / 4096)) }
 {
@@ -164,6 +168,7 @@ pub fn rounded_sum(s: Sum) -> i32
 }
 
 // The rounded sum and a number more, its low 32 bits as a signed number.
+#[tactic(auto, using(lowbits::proofs::Read::wrapping_sum, lowbits::proofs::Laws::signed_sum))]
 pub fn rounded_plus(s: Sum, d: i32) -> i32
     ensures { result ≡ signed_low 32 (pos (sum_of s / 4096) +ℤ d) }
 {
