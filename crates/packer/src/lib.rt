@@ -10,7 +10,7 @@ ghost use Rattle.stream.specs.Pack.{packed_words, or_none, IsRead, pack as PackÂ
 ghost use Rattle.packer.specs.Inside.{writes_of, values, Begins, Stops, SizedGroup};
 ghost use Rattle.packer.specs.Inside.{GroupFits, PutGroup};
 
-use commands::{command_at, command_of_port, parameters, port_parameters};
+use commands::{command_at, command_of_port, port_parameters};
 use stream::{MOST_WORDS, Refusal, Refused};
 
 // How many commands a command word holds.
@@ -131,7 +131,7 @@ fn put_group(log: &[[u32; 2]], from: Places, buffer: &mut [u32]) -> Places
         }
         let [address, _] = log[next];
         let byte = command_of_port(address);
-        let count = usize::from(parameters(byte).unwrap());
+        let count = commands::count(byte);
         word = with_byte(word, byte, slot);
         // Told apart as in `next_command`.
         if count == 0 {

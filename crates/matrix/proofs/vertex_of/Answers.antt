@@ -1,6 +1,5 @@
 use mathlib.Core.Path.{◌∙◌, ap}
 use Prim.Native.Nat.{◌+◌, ◌/◌, ◌^◌}
-use native.Mathlib.Omega.{arith}
 use lib.IntN.{ℤ, pos, ◌+ℤ◌, ◌*ℤ◌}
 use mir.Facts.{to_z-of_z}
 use mir.Syntax.{w32}
@@ -13,22 +12,6 @@ use Rattle.matrix.specs.Matrix.{entry, at}
 use Rattle.matrix.proofs.Rows.{by_sum_plus}
 use borrow.Author.Rules.{rules}
 use Rattle.matrix.proofs.vertex_of.Goals as goal
-
-pub plus_short-s-requires : goal.plus_short-s-requires
-plus_short-s-requires c = omega (arith, c.no_product.ensures.1)
-
-pub plus_short-requires : goal.plus_short-requires
-plus_short-requires c =
-    omega (arith, c.no_product.ensures.1, c.plus_short-s.ensures.lower_bound)
-
-pub plus_short-t-requires : goal.plus_short-t-requires
-plus_short-t-requires c =
-    omega (
-      arith,
-      c.no_product.ensures.1,
-      c.plus_short-s.ensures.lower_bound,
-      c.plus_short.ensures.lower_bound,
-    )
 
 pub returns : goal.returns
 unfolding entry

@@ -13,7 +13,7 @@ use Rattle.packer.proofs.ValueLaws.{length-writes_of, address-of}
 use Rattle.packer.proofs.PutLaws.{put_group_start, next-command, values-room}
 use Rattle.packer.proofs.PutLaws.{put_group_more, Stored, stored_none, stored_some, end-room, dummy-room, put_dummy, put_plain}
 use Rattle.packer.proofs.put_group.Goals as goal
-use Rattle.packer.proofs.put_group.Goals.{After-from-count, Else-log-next, Left-loop-slot}
+use Rattle.packer.proofs.put_group.Goals.{After-count-count, Else-log-next, Left-loop-slot}
 use Rattle.packer.proofs.put_group.Goals.{then-count-eq0, else-count-eq0}
 use Rattle.packer.proofs.put_group.Goals.{else-loop-slot-test, then-loop-slot-test+then-log-next}
 
@@ -30,29 +30,19 @@ is-port c z =
 pub command_of_port-byte-requires : goal.command_of_port-byte-requires
 command_of_port-byte-requires c = is-port (goal.at.command_of_port-byte-requires c).Else-log-next
 
-pub unwrap-requires : goal.unwrap-requires
-unfolding known
-unwrap-requires c =
-    let k = port_of_command _ (is-port (goal.at.unwrap-requires c).Else-log-next) in
-    ap is_some c.parameters.ensures ∙ ap known c.command_of_port-byte.ensures ∙ k.is_known
-
 -- the next command, and how many parameters it takes
-byte-is : (c : After-from-count) → c.command_of_port-byte.result ≡ byte_at (writes_of c.args.log.now) c.loop-slot.next
+byte-is : (c : After-count-count) → c.command_of_port-byte.result ≡ byte_at (writes_of c.args.log.now) c.loop-slot.next
 byte-is c =
     c.command_of_port-byte.ensures
     ∙ sym (ap command_at (address-of c.args.log.now c.loop-slot.next c.if-log-next.false))
 
-counted : (c : After-from-count)
-    → c.from-count.result ≡ count (byte_at (writes_of c.args.log.now) c.loop-slot.next)
-unfolding count
-counted c =
-    c.from-count.ensures
-    ∙ ap (λ o. unwrap_or o 0) (sym c.unwrap.ensures ∙ c.parameters.ensures)
-    ∙ ap count (byte-is c)
+counted : (c : After-count-count)
+    → c.count-count.result ≡ count (byte_at (writes_of c.args.log.now) c.loop-slot.next)
+counted c = c.count-count.ensures ∙ ap count (byte-is c)
 
 -- and there is room for them
-room : (c : After-from-count)
-    → let n = c.from-count.result in
+room : (c : After-count-count)
+    → let n = c.count-count.result in
     (c.loop-slot.next + n ≤ length (writes_of c.args.log.now)) × (c.loop-slot.end + n ≤ length c.loop-slot.buffer)
 room c =
     values-room c.loop-slot.invariant (omega (arith, length-writes_of c.args.log.now)) c.loop-slot-test.true _
@@ -60,26 +50,30 @@ room c =
 
 pub overflow_add-next : goal.overflow_add-next
 overflow_add-next c =
-    omega (arith, room (goal.at.overflow_add-next c).After-from-count, c.requires.few)
+    omega (arith, room (goal.at.overflow_add-next c).After-count-count, c.requires.few)
+
+pub overflow_add-next-else-count-eq0 : goal.overflow_add-next-else-count-eq0
+overflow_add-next-else-count-eq0 c =
+    omega (arith, room (goal.at.overflow_add-next-else-count-eq0 c).After-count-count, c.requires.few)
 
 pub slice_bounds-put_values-end : goal.slice_bounds-put_values-end
 slice_bounds-put_values-end c =
     omega (
       arith,
-      room (goal.at.slice_bounds-put_values-end c).After-from-count,
+      room (goal.at.slice_bounds-put_values-end c).After-count-count,
       length-writes_of c.args.log.now,
     )
 
 pub slice_bounds-put_values-end-else-count-eq0 : goal.slice_bounds-put_values-end-else-count-eq0
 slice_bounds-put_values-end-else-count-eq0 c =
-    omega (arith, room (goal.at.slice_bounds-put_values-end-else-count-eq0 c).After-from-count)
+    omega (arith, room (goal.at.slice_bounds-put_values-end-else-count-eq0 c).After-count-count)
 
 pub loop-slot-preserved : goal.loop-slot-preserved
 loop-slot-preserved c =
-    let here = (goal.at.loop-slot-preserved c).After-from-count in
+    let here = (goal.at.loop-slot-preserved c).After-count-count in
     let n = length-writes_of c.args.log.now in
-    let log : c.loop-slot.next + c.from-count.result ≤ length c.args.log.now = omega (arith, n, room here) in
-    let stored : Stored (writes_of c.args.log.now) c.from-count.result c.loop-slot.next c.loop-slot.end
+    let log : c.loop-slot.next + c.count-count.result ≤ length c.args.log.now = omega (arith, n, room here) in
+    let stored : Stored (writes_of c.args.log.now) c.count-count.result c.loop-slot.next c.loop-slot.end
         c.loop-slot.buffer c.if-count-eq0.next c.if-count-eq0.end c.if-count-eq0.buffer =
     elim c.if-count-eq0.branch [
       | then-count-eq0 w ↦ stored_none w.if-count-eq0.true w.next-is w.end-is w.buffer-is
