@@ -1,5 +1,5 @@
 -- Two texts compared byte by byte, and a room read digit by digit.
-use mathlib.Core.Bool.{Bool, true, false, false≢true, cond, ◌&&◌}
+use mathlib.Core.Bool.{Bool, true, false, cond}
 use mathlib.Core.List.{List, [], ◌∷◌}
 use mathlib.Core.Path.{◌≡◌, refl, sym, ◌∙◌}
 use Prim.Native.Nat.{ℕ, suc, ◌+◌, ◌*◌, ◌-◌, ◌^◌, ◌≤◌, ◌<◌}
@@ -7,16 +7,12 @@ use native.Mathlib.Nat.{pow-suc}
 use native.Mathlib.Numerals.{add-one}
 use native.Mathlib.Omega.{arith}
 use lib.Dec.{eqb}
-use lib.ListN.{length, get_or, drop, drop_of_length-le}
+use lib.ListN.{length, get_or, drop}
 use borrow.Author.Tests.{le-leb, lt-leb}
 use Rattle.std.specs.Char.{is_ascii_digit}
 use Rattle.std.specs.Cmp.Lexicographic.{pointwise}
 use Rattle.words.proofs.Over.{drop-next}
 use Rattle.replays.specs.Arguments.{same_bytes, is_digit, all_digits, is_decimal, digits_from, room_of}
-
-both_true : (s t : Bool) → (s && t) ≡ true → (s ≡ true) × (t ≡ true)
-both_true true t e = (refl, e)
-both_true false t e = absurd (false≢true e)
 
 -- what `==` answers of two texts
 same-bytes : (xs ys : List ℕ) → pointwise eqb xs ys ≡ same_bytes xs ys
@@ -58,10 +54,6 @@ module _ (text : List ℕ) where
   -- a byte that is no digit
   pub room-none : (n i : ℕ) → i < length text → is_digit (get_or text i 0) ≡ false → room_from n (drop i text) ≡ 0
   room-none n i h e = rw (drop-next text i 0 h, e)
-
-  -- behind the last digit
-  pub room-end : (n i : ℕ) → length text ≤ i → room_from n (drop i text) ≡ n
-  room-end n i h = rw (drop_of_length-le text {i = i} h)
 
 -- i digits and one more stand for a number below 10 ^ (i + 1)
 pub room_bound : (n d i : ℕ) → d ≤ 57 → n < 10 ^ i → 10 * n + (d - 48) < 10 ^ (i + 1)
