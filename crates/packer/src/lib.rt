@@ -16,13 +16,6 @@ use stream::{MOST_WORDS, Refusal, Refused};
 // How many commands a command word holds.
 const SLOTS: usize = 4;
 
-// Where reading and writing go on.
-#[derive(Clone, Copy)]
-struct Places {
-    next: usize,
-    to: usize,
-}
-
 // A refusal at a write.
 fn refused(refusal: Refusal, place: usize) -> Refused
     requires { place < 2 ^ 32 }
@@ -46,7 +39,7 @@ fn next_command(log: &[[u32; 2]], next: &mut usize) -> Result<usize, Refused>
     let Some(count) = port_parameters(address) else {
         return Err(refused(Refusal::NoPort, first));
     };
-    // Write by write, so that the next command can be looked at before the number of parameters is added.
+    // Write by write, so that the next command can be looked at before the number of parameters is known.
     *next += 1;
     for _parameter in 1..count {
         let Some([other, _]) = log.get(*next) else {
@@ -115,40 +108,39 @@ fn with_byte(word: u32, byte: u8, slot: usize) -> u32
     word + (u32::from(byte) << (8 * slot))
 }
 
-// The packed words of one command word's commands, those from the i-th write of an accepted log on, into the buffer
-// from `to` on.
-fn put_group(log: &[[u32; 2]], from: Places, buffer: &mut [u32]) -> Places
-    requires { GroupFits (writes_of log.now) from buffer.old }
-    ensures { PutGroup (writes_of log.now) from buffer.old buffer.new result }
+// The packed words of the commands from the next write of an accepted log on that one command word holds, into the first
+// words of a buffer: how many they are. `next` goes on behind the commands.
+fn put_group(log: &[[u32; 2]], next: &mut usize, words: &mut [u32]) -> usize
+    requires { GroupFits (writes_of log.now) next.old words.old }
+    ensures { PutGroup (writes_of log.now) next.old next.new words.old words.new result }
 {
-    let mut next = from.next;
     let mut word = 0;
-    let mut end = from.to + 1;
+    let mut size = 1;
     let mut none = false;
     for slot in 0..SLOTS {
-        if log.len() <= next {
+        if log.len() <= *next {
             break;
         }
-        let [address, _] = log[next];
+        let [address, _] = log[*next];
         let byte = command_of_port(address);
         let count = commands::count(byte);
         word = with_byte(word, byte, slot);
-        // Told apart as in `next_command`.
+        // Told apart, so that the next command can be looked at before the number of parameters is known.
         if count == 0 {
-            next += 1;
+            *next += 1;
         } else {
-            put_values(&log[next..next + count], &mut buffer[end..end + count]);
-            next += count;
-            end += count;
+            put_values(&log[*next..*next + count], &mut words[size..size + count]);
+            *next += count;
+            size += count;
         }
         none = count == 0;
     }
-    buffer[from.to] = word;
+    words[0] = word;
     if none {
-        buffer[end] = 0;
-        end += 1;
+        words[size] = 0;
+        size += 1;
     }
-    Places { next, to: end }
+    size
 }
 
 // The packed words of an accepted log.
@@ -159,9 +151,10 @@ fn put_log(log: &[[u32; 2]], buffer: &mut [u32])
     ensures { buffer.new
         ≡ over (packed_words (or_none (log_commands (writes_of log.now)))) buffer.old }
 {
-    let mut places = Places { next: 0, to: 0 };
-    while places.next < log.len() {
-        places = put_group(log, places, buffer);
+    let mut next = 0;
+    let mut total = 0;
+    while next < log.len() {
+        total += put_group(log, &mut next, &mut buffer[total..]);
     }
 }
 
