@@ -6,7 +6,6 @@ use mathlib.Core.Logic.{◌⊎◌, inl, inr}
 use mathlib.Core.Path.{◌≡◌, refl, sym, ap, ◌∙◌}
 use Prim.Native.Nat.{ℕ, suc, ◌+◌, ◌-◌, ◌*◌, ◌^◌, ◌≤◌, ◌<◌}
 use native.Mathlib.Nat.{zero-add, pow-succ', mul_assoc}
-use native.Mathlib.Numerals.{add-one}
 use native.Mathlib.Omega.{arith}
 use lib.Dec.{eqb}
 use lib.ListN.{length, take, drop, set, length-append, length-drop, length-set, drop_of_length-le}
@@ -328,13 +327,13 @@ put_rest l i xs vs h e =
     rw (e, t, d, append-nil (xs ++ drop (length xs) (drop i l)), drop-drop, sets-eq xs l i h)
     (sym (append_assoc (take i l) xs (drop (i + length xs) l)))
 
-pub record PuttingLog (ws : List Write) (old : List ℕ) (next total : ℕ) (new : List ℕ) : Type 0 where
+pub record PuttingLog (ws : List Write) (old : List ℕ) (next to : ℕ) (new : List ℕ) : Type 0 where
   pub few : length ws ≤ 4096
   pub done : List Command
   pub passed : Passed ws next done
   pub is_read : IsRead (log_commands ws)
   pub room : length (packed_words (or_none (log_commands ws))) ≤ length old
-  pub total_is : total ≡ length (packed_words done)
+  pub to_is : to ≡ length (packed_words done)
   pub same : length new ≡ length old
   pub buffer : new ≡ sets old 0 (packed_words done)
 
@@ -347,23 +346,23 @@ put_log_start {ws} f g r = record {
   passed = none_passed ws;
   is_read = g;
   room = r;
-  total_is = refl;
+  to_is = refl;
   same = refl;
   buffer = refl;
 }
 
-module _ {ws : List Write} {old : List ℕ} {next total : ℕ} {new : List ℕ} (p : PuttingLog ws old next total new) where
+module _ {ws : List Write} {old : List ℕ} {next to : ℕ} {new : List ℕ} (p : PuttingLog ws old next to new) where
   left : More p.done (or_none (log_commands ws)) (rest_commands next ws)
   left =
       behind p.done (or_none (log_commands ws)) (rest_commands next ws)
       (sym p.passed.read ∙ sym (from_first ws) ∙ p.is_read)
 
   module _ (h : next < length ws) where
-    rest-room : total + length (packed_words left.more) ≤ length new
+    rest-room : to + length (packed_words left.more) ≤ length new
     rest-room =
         omega (
           arith,
-          p.total_is,
+          p.to_is,
           p.room,
           p.same,
           ap (λ (l : List Command). length (packed_words l)) left.joined,
@@ -372,13 +371,13 @@ module _ {ws : List Write} {old : List ℕ} {next total : ℕ} {new : List ℕ} 
         )
 
     -- there is room for the rest of the log's words
-    pub total-room : total ≤ length new
-    total-room = omega (arith, rest-room)
+    pub to-room : to ≤ length new
+    to-room = omega (arith, rest-room)
 
-    length-rest : length (take (length new - total) (drop total new)) ≡ length new - total
-    length-rest = length-take-le (length new - total) (drop total new) (rw (length-drop total new) (omega arith))
+    length-rest : length (take (length new - to) (drop to new)) ≡ length new - to
+    length-rest = length-take-le (length new - to) (drop to new) (rw (length-drop to new) (omega arith))
 
-    pub group-fits : GroupFits ws next (take (length new - total) (drop total new))
+    pub group-fits : GroupFits ws next (take (length new - to) (drop to new))
     group-fits = record {
       few = p.few;
       start = h;
@@ -387,26 +386,26 @@ module _ {ws : List Write} {old : List ℕ} {next total : ℕ} {new : List ℕ} 
     }
 
     pub put_log_more : {next' size : ℕ} (vs : List ℕ)
-        → PutGroup ws next next' (take (length new - total) (drop total new)) vs size
-        → PuttingLog ws old next' (total + size) (put_mid total (length new - total) new vs)
+        → PutGroup ws next next' (take (length new - to) (drop to new)) vs size
+        → PuttingLog ws old next' (to + size) (put_mid to (length new - to) new vs)
     put_log_more vs q =
-        let room : total + length (group_words q.cs) ≤ length new =
-        omega (arith, q.room, q.counted, length-rest, total-room) in
-        let stored = put_rest new total (group_words q.cs) vs room q.buffer in
+        let room : to + length (group_words q.cs) ≤ length new =
+        omega (arith, q.room, q.counted, length-rest, to-room) in
+        let stored = put_rest new to (group_words q.cs) vs room q.buffer in
         record {
           few = p.few;
           done = p.done ++ q.cs;
           passed = passed-more p.passed h q.group (omega (arith, q.counted, q.small));
           is_read = p.is_read;
           room = p.room;
-          total_is = omega (arith, q.counted, p.total_is, length_more p.passed h q.group);
-          same = ap length stored ∙ length-sets new total (group_words q.cs) ∙ p.same;
+          to_is = omega (arith, q.counted, p.to_is, length_more p.passed h q.group);
+          same = ap length stored ∙ length-sets new to (group_words q.cs) ∙ p.same;
           buffer = stored
               ∙ rw (
                 one_more p.passed h q.group,
                 sets-append old 0 (packed_words p.done) (group_words q.cs),
                 zero-add (length (packed_words p.done)),
-                ← p.total_is,
+                ← p.to_is,
                 ← p.buffer,
               );
         }

@@ -4,10 +4,7 @@ use mathlib.Core.Path.{◌≡◌, sym, ap, ◌∙◌}
 use Prim.Native.Nat.{◌+◌, ◌≤◌}
 use native.Mathlib.Omega.{arith}
 use lib.ListN.{length, get_or}
-use Rattle.std.specs.Prelude.{is_some, unwrap_or}
-use Rattle.commands.specs.Commands.{known, count, command_at}
-use Rattle.commands.proofs.Commands.{port_of_command}
-use Rattle.stream.proofs.UnpackLaws.{writes_for_bounds}
+use Rattle.commands.specs.Commands.{count, command_at}
 use Rattle.packer.specs.Inside.{writes_of, byte_at}
 use Rattle.packer.proofs.ValueLaws.{length-writes_of, address-of}
 use Rattle.packer.proofs.PutLaws.{put_group_start, next-command, values-room}
@@ -74,11 +71,11 @@ loop-slot-preserved c =
     let n = length-writes_of c.args.log.now in
     let log : c.loop-slot.next + c.count-count.result ≤ length c.args.log.now = omega (arith, n, room here) in
     let stored : Stored (writes_of c.args.log.now) c.count-count.result c.loop-slot.next c.loop-slot.size
-        c.loop-slot.words c.if-count-eq0.next c.if-count-eq0.size c.if-count-eq0.words =
+    c.loop-slot.words c.if-count-eq0.next c.if-count-eq0.size c.if-count-eq0.words =
     elim c.if-count-eq0.branch [
       | then-count-eq0 w ↦ stored_none w.if-count-eq0.true w.next-is w.size-is w.words-is
       | else-count-eq0 w ↦ stored_some c.args.log.now w.if-count-eq0.false log (room here).1 w.put_values.ensures w.next-is w.size-is
-            w.words-is
+          w.words-is
     ] in
     put_group_more c.loop-slot.invariant (omega (arith, n)) c.loop-slot-test.true _ (counted here) stored
     (c.with_byte-word.ensures.value ∙ rw (byte-is here)) c.with_byte-word.ensures.upper_bound
