@@ -17,7 +17,6 @@ use Rattle.stream.specs.declared.Refused.{Refused}
 use Rattle.stream.specs.Read.{commands, prepend, log_commands}
 use Rattle.stream.specs.Output.{answer_to, measured}
 use Rattle.stream.specs.Pack.{parameters_of, ends_with_none, dummy_if, group_words, packed_words, count_if}
-use Rattle.stream.specs.Unpack.{writes_for}
 use Rattle.stream.proofs.CommandLaws.{none-by-count}
 use Rattle.stream.proofs.ReadLaws.{prepend-none, prepend-append}
 use Rattle.stream.proofs.PackLaws.{parameters-append, one-most, length-dummy}
@@ -130,13 +129,12 @@ one-if true = refl
 one-if false = refl
 
 pub record MeasuringGroup (ws : List Write) (i next slot size : ℕ) (none : Bool) : Type 0 where
-  pub few : length ws ≤ 4096
   pub start : i < length ws
   pub cs : List Command
   pub taken : Taken ws i next slot size none cs
 
-pub group-start : {ws : List Write} {i : ℕ} → length ws ≤ 4096 → i < length ws → MeasuringGroup ws i i 0 0 false
-group-start {ws} {i} f h = record { few = f; start = h; cs = []; taken = none-taken ws i h }
+pub group-start : (ws : List Write) (i : ℕ) → i < length ws → MeasuringGroup ws i i 0 0 false
+group-start ws i h = record { start = h; cs = []; taken = none-taken ws i h }
 
 module _ {ws : List Write} {i next slot size : ℕ} {none : Bool} (m : MeasuringGroup ws i next slot size none) where
   pub group-bounds : (size ≤ 128) × (slot ≤ 4)
@@ -148,7 +146,6 @@ module _ {ws : List Write} {i next slot size : ℕ} {none : Bool} (m : Measuring
 
     pub group-more : slot < 4 → MeasuringGroup ws i next' (slot + 1) (size + n) (eqb n 0)
     group-more h = record {
-      few = m.few;
       start = m.start;
       cs = m.cs ++ command_from ws next n ∷ [];
       taken = taken_more m.taken h b;
@@ -239,25 +236,17 @@ from_first l = refl
 -- ---- the loop that measures a log
 
 pub record Measuring (ws : List Write) (i total : ℕ) : Type 0 where
-  pub few : length ws ≤ 4096
   pub done : List Command
   pub passed : Passed ws i done
   pub total_is : total ≡ length (packed_words done)
 
-pub measure_start : {ws : List Write} → length ws ≤ 4096 → Measuring ws 0 0
+pub measure_start : (ws : List Write) → Measuring ws 0 0
 unfolding packed_words
-measure_start {ws} f = record { few = f; done = []; passed = none_passed ws; total_is = refl }
+measure_start ws = record { done = []; passed = none_passed ws; total_is = refl }
 
 module _ {ws : List Write} {i total : ℕ} (m : Measuring ws i total) where
-  pub total_small : (total ≤ 130 * i) × (i ≤ 4096)
-  total_small = (
-    omega (arith, m.total_is, m.passed.small),
-    omega (arith, m.passed.within, m.few),
-  )
-
   pub measure_more : i < length ws → {next size : ℕ} → SizedGroup ws i next size → Measuring ws next (total + size)
   measure_more h g = record {
-    few = m.few;
     done = m.done ++ g.cs;
     passed = passed-more m.passed h g.group (omega (arith, g.counted, g.small));
     total_is = omega (arith, m.total_is, g.counted, length_more m.passed h g.group);

@@ -6,11 +6,10 @@ use mathlib.Core.Logic.{◌⊎◌, inl, inr}
 use mathlib.Core.Path.{◌≡◌, refl, sym, ap, ◌∙◌}
 use Prim.Native.Nat.{ℕ, suc, ◌+◌, ◌-◌, ◌*◌, ◌^◌, ◌≤◌, ◌<◌}
 use native.Mathlib.Nat.{zero-add, pow-succ', mul_assoc}
-use native.Mathlib.Numerals.{add-one}
 use native.Mathlib.Omega.{arith}
 use lib.Dec.{eqb}
 use lib.ListN.{length, take, drop, set, length-append, length-drop, length-set, drop_of_length-le}
-use lib.Seq.{sets, sets-eq, length-sets, length-take-le, set_comm, take-append-add, drop-drop}
+use lib.Seq.{sets, sets-eq, length-sets, length-take-le, set_comm, take_all, take-append-add, drop-drop}
 use borrow.Rule.Slice.PartMut.{put_mid}
 use Rattle.words.specs.Words.{word_of, over}
 use Rattle.words.proofs.Over.{sets-append, sets_over}
@@ -20,9 +19,8 @@ use Rattle.stream.specs.Read.{commands, log_commands}
 use Rattle.stream.specs.Pack.{queue_of, parameters_of, ends_with_none, group_words, packed_words, count_if, or_none, IsRead}
 use Rattle.stream.specs.Unpack.{writes_for}
 use Rattle.stream.proofs.ReadLaws.{More, behind}
-use Rattle.stream.proofs.PackLaws.{length-queue, parameters-append}
+use Rattle.stream.proofs.PackLaws.{length-queue, parameters-append, one-most}
 use Rattle.stream.proofs.UnpackLaws.{writes_for_none, writes_for_some, writes_for_bounds}
-use Rattle.packer.specs.declared.Places.{Places}
 use Rattle.packer.specs.Inside.{writes_of, rest_commands, values, byte_at, command_from, Begins, IsGroup, GroupFits, PutGroup}
 use Rattle.packer.proofs.ValueLaws.{length-writes_of, part-writes, length-values}
 use Rattle.packer.proofs.CommandWalk.{read-command, read-begins}
@@ -154,39 +152,39 @@ stored_some log {n} {next} {end} {buffer} {vs = vs} d h room v e f g = record {
   buffer-is = g ∙ put_part buffer end log next n vs h room v;
 }
 
--- ---- the loop that writes a group: its commands cs are stored behind the place where their word will stand
+-- ---- the loop that writes a group: its commands cs are stored behind the first word, where their command word will stand
 
-pub record PuttingGroup (ws : List Write) (from : Places) (old : List ℕ) (next slot word end : ℕ) (none : Bool)
+pub record PuttingGroup (ws : List Write) (i : ℕ) (old : List ℕ) (next slot word size : ℕ) (none : Bool)
     (new : List ℕ) : Type 0 where
-  pub fits : GroupFits ws from old
+  pub fits : GroupFits ws i old
   pub cs : List Command
-  pub size : ℕ
-  pub taken : Taken ws from.next next slot size none cs
+  pub parameters : ℕ
+  pub taken : Taken ws i next slot parameters none cs
   pub word-is : word ≡ word_of (queue_of cs)
   pub word_small : word < 256 ^ slot
-  pub end_is : end ≡ from.to + 1 + size
+  pub size_is : size ≡ 1 + parameters
   pub same : length new ≡ length old
-  pub buffer : new ≡ sets old (from.to + 1) (parameters_of cs)
+  pub buffer : new ≡ sets old 1 (parameters_of cs)
 
-pub put_group_start : {ws : List Write} {from : Places} {old : List ℕ} → GroupFits ws from old
-    → PuttingGroup ws from old from.next 0 0 (from.to + 1) false old
-put_group_start {ws} {from} f = record {
+pub put_group_start : {ws : List Write} {i : ℕ} {old : List ℕ} → GroupFits ws i old
+    → PuttingGroup ws i old i 0 0 1 false old
+put_group_start {ws} {i} f = record {
   fits = f;
   cs = [];
-  size = 0;
-  taken = none-taken ws from.next f.start;
+  parameters = 0;
+  taken = none-taken ws i f.start;
   word-is = refl;
   word_small = omega arith;
-  end_is = omega arith;
+  size_is = refl;
   same = refl;
   buffer = refl;
 }
 
-module _ {ws : List Write} {from : Places} {old : List ℕ} {next slot word end : ℕ} {none : Bool}
-    {new : List ℕ} (p : PuttingGroup ws from old next slot word end none new) where
-  rest-is : More p.cs (or_none (rest_commands from.next ws)) (rest_commands next ws)
+module _ {ws : List Write} {i : ℕ} {old : List ℕ} {next slot word size : ℕ} {none : Bool} {new : List ℕ}
+    (p : PuttingGroup ws i old next slot word size none new) where
+  rest-is : More p.cs (or_none (rest_commands i ws)) (rest_commands next ws)
   rest-is =
-      behind p.cs (or_none (rest_commands from.next ws)) (rest_commands next ws)
+      behind p.cs (or_none (rest_commands i ws)) (rest_commands next ws)
       (sym p.taken.read ∙ p.fits.is_read)
 
   module _ (h : next < length ws) where
@@ -199,24 +197,24 @@ module _ {ws : List Write} {from : Places} {old : List ℕ} {next slot word end 
       b : Begins ws next (next + writes_for n) n
       b = rw k (read-begins ws next rest-is.more h rest-is.is)
 
-      t : Taken ws from.next (next + writes_for n) (slot + 1) (p.size + n) (eqb n 0)
+      t : Taken ws i (next + writes_for n) (slot + 1) (p.parameters + n) (eqb n 0)
           (p.cs ++ command_from ws next n ∷ [])
       t = taken_more p.taken few b
 
-      m : More (p.cs ++ command_from ws next n ∷ []) (or_none (rest_commands from.next ws))
+      m : More (p.cs ++ command_from ws next n ∷ []) (or_none (rest_commands i ws))
           (rest_commands (next + writes_for n) ws)
       m =
-          behind (p.cs ++ command_from ws next n ∷ []) (or_none (rest_commands from.next ws))
+          behind (p.cs ++ command_from ws next n ∷ []) (or_none (rest_commands i ws))
           (rest_commands (next + writes_for n) ws) (sym t.read ∙ p.fits.is_read)
 
-      pub values-room : (next + n ≤ length ws) × (end + n ≤ length new)
+      pub values-room : (next + n ≤ length ws) × (size + n ≤ length new)
       values-room = (
         omega (arith, writes_for_bounds n, b.within),
         omega (
           arith,
           p.fits.room,
           p.same,
-          p.end_is,
+          p.size_is,
           t.counted,
           ap (λ (l : List Command). length (packed_words l)) m.joined,
           packed-room (p.cs ++ command_from ws next n ∷ []) m.more (omega (arith, t.slots))
@@ -224,16 +222,16 @@ module _ {ws : List Write} {from : Places} {old : List ℕ} {next slot word end 
         ),
       )
 
-      pub put_group_more : {next' word' end' : ℕ} {new' : List ℕ} → Stored ws n next end new next' end' new'
+      pub put_group_more : {next' word' size' : ℕ} {new' : List ℕ} → Stored ws n next size new next' size' new'
           → word' ≡ word + 256 ^ slot * byte_at ws next → word' < 256 ^ (slot + 1)
-          → PuttingGroup ws from old next' (slot + 1) word' end' (eqb n 0) new'
+          → PuttingGroup ws i old next' (slot + 1) word' size' (eqb n 0) new'
       put_group_more e w s =
           let c = command_from ws next n in
           let vs = values (take n (drop next ws)) in
           record {
             fits = p.fits;
             cs = p.cs ++ c ∷ [];
-            size = p.size + n;
+            parameters = p.parameters + n;
             taken = rw e.next-is t;
             word-is = w
                 ∙ rw (
@@ -244,96 +242,103 @@ module _ {ws : List Write} {from : Places} {old : List ℕ} {next slot word end 
                   ← p.word-is,
                 );
             word_small = s;
-            end_is = omega (arith, p.end_is, e.end-is);
-            same = ap length e.buffer-is ∙ length-sets new end vs ∙ p.same;
+            size_is = omega (arith, p.size_is, e.end-is);
+            same = ap length e.buffer-is ∙ length-sets new size vs ∙ p.same;
             buffer = e.buffer-is
                 ∙ sym (rw (
                   parameters-append p.cs (c ∷ []),
                   append-nil vs,
-                  sets-append old (from.to + 1) (parameters_of p.cs) vs,
+                  sets-append old 1 (parameters_of p.cs) vs,
                   ← p.taken.counted,
-                  ← p.end_is,
+                  ← p.size_is,
                   ← p.buffer,
                 ));
           }
 
   -- the group is full, or the log is at its end
   module _ (w : (slot ≡ 4) ⊎ (length ws ≤ next)) where
-    g : IsGroup ws from.next next p.cs
+    g : IsGroup ws i next p.cs
     g = group-taken p.taken p.fits.start w
 
-    l : Behind ws next p.cs (or_none (rest_commands from.next ws))
-    l = group-behind (or_none (rest_commands from.next ws)) g p.fits.is_read
+    l : Behind ws next p.cs (or_none (rest_commands i ws))
+    l = group-behind (or_none (rest_commands i ws)) g p.fits.is_read
 
-    size_is : length (group_words p.cs) ≡ 1 + p.size + count_if none 0
-    size_is = length-group p.cs ∙ rw (← p.taken.counted, ← p.taken.last)
+    length-is : length (group_words p.cs) ≡ size + count_if none 0
+    length-is = length-group p.cs ∙ rw (← p.taken.counted, ← p.taken.last, ← p.size_is)
 
-    pub end-room : end + count_if none 0 ≤ length new
-    end-room =
+    pub size-room : size + count_if none 0 ≤ length old
+    size-room =
         omega (
           arith,
-          p.end_is,
           p.fits.room,
-          p.same,
-          size_is,
+          length-is,
           ap length l.packed,
           length-append (group_words p.cs) (packed_words l.more),
         )
 
-    first : set new from.to word ≡ sets old from.to (word_of (queue_of p.cs) ∷ parameters_of p.cs)
+    first : set new 0 word ≡ sets old 0 (word_of (queue_of p.cs) ∷ parameters_of p.cs)
     first =
-        rw (p.buffer, p.word-is, add-one from.to)
-        (set_below old from.to (suc from.to) (parameters_of p.cs) (word_of (queue_of p.cs)) (omega arith))
+        rw (p.buffer, p.word-is)
+        (set_below old 0 1 (parameters_of p.cs) (word_of (queue_of p.cs)) (omega arith))
 
-    pub dummy-room : none ≡ true → end < length (set new from.to word)
+    -- the words that are stored
+    put : {size' : ℕ} {new' : List ℕ} → size' ≡ size + count_if none 0 → new' ≡ sets old 0 (group_words p.cs)
+        → PutGroup ws i next old new' size'
+    put z e = record {
+      cs = p.cs;
+      group = g;
+      counted = z ∙ sym length-is;
+      small = omega (arith, p.size_is, p.taken.small, p.taken.most, one-most none);
+      room = omega (arith, size-room);
+      buffer = e ∙ sets_over old (group_words p.cs) (omega (arith, size-room, length-is));
+    }
+
+    pub dummy-room : none ≡ true → size < length (set new 0 word)
     dummy-room e =
-        rw (length-set new from.to word) (omega (arith, end-room, ap (λ (b : Bool). count_if b 0) e))
+        rw (length-set new 0 word) (omega (arith, size-room, p.same, ap (λ (b : Bool). count_if b 0) e))
 
-    pub put_dummy : none ≡ true
-        → PutGroup ws from old (set (set new from.to word) end 0) (record { next = next; to = end + 1 })
+    pub put_dummy : none ≡ true → PutGroup ws i next old (set (set new 0 word) size 0) (size + 1)
     unfolding group_words
     put_dummy e =
         let d : ends_with_none false p.cs ≡ true = sym p.taken.last ∙ e in
         let k : count_if none 0 ≡ 1 = ap (λ (b : Bool). count_if b 0) e in
-        let ws = word_of (queue_of p.cs) ∷ parameters_of p.cs in
-        let q : from.to + length (word_of (queue_of p.cs) ∷ parameters_of p.cs) ≡ end =
-        omega (arith, p.end_is, p.taken.counted) in
-        record {
-          cs = p.cs;
-          group = g;
-          end = omega (arith, size_is, p.end_is);
-          small = omega (arith, size_is, p.taken.small, p.taken.most);
-          buffer = rw (first, d, ← q) (sym (sets-append old from.to ws (0 ∷ [])));
-        }
+        let q : length (word_of (queue_of p.cs) ∷ parameters_of p.cs) ≡ size = omega (arith, p.size_is, p.taken.counted) in
+        put (omega arith)
+        (rw (first, d) (rw (zero-add (length (word_of (queue_of p.cs) ∷ parameters_of p.cs)), q) at
+        (sym (sets-append old 0 (word_of (queue_of p.cs) ∷ parameters_of p.cs) (0 ∷ [])))))
 
-    pub put_plain : none ≡ false → PutGroup ws from old (set new from.to word) (record { next = next; to = end })
+    pub put_plain : none ≡ false → PutGroup ws i next old (set new 0 word) size
     unfolding group_words
     put_plain e =
         let d : ends_with_none false p.cs ≡ false = sym p.taken.last ∙ e in
         let k : count_if none 0 ≡ 0 = ap (λ (b : Bool). count_if b 0) e in
-        record {
-          cs = p.cs;
-          group = g;
-          end = omega (arith, size_is, p.end_is);
-          small = omega (arith, size_is, p.taken.small, p.taken.most);
-          buffer = first ∙ rw (d, append-nil (parameters_of p.cs));
-        }
+        put (omega arith) (first ∙ rw (d, append-nil (parameters_of p.cs)))
 
 -- ---- the loop that writes a log
 
-pub record PuttingLog (ws : List Write) (old : List ℕ) (places : Places) (new : List ℕ) : Type 0 where
+-- words stored at the start of the rest of a list
+put_rest : (l : List ℕ) (i : ℕ) (xs vs : List ℕ) → i + length xs ≤ length l
+    → vs ≡ over xs (take (length l - i) (drop i l)) → put_mid i (length l - i) l vs ≡ sets l i xs
+unfolding over
+put_rest l i xs vs h e =
+    let n : length (drop i l) ≡ length l - i = length-drop i l in
+    let t : take (length l - i) (drop i l) ≡ drop i l = take_all (length l - i) (drop i l) (omega arith) in
+    let d : drop (length l - i) (drop i l) ≡ [] = drop_of_length-le (drop i l) {i = length l - i} (omega arith) in
+    rw (e, t, d, append-nil (xs ++ drop (length xs) (drop i l)), drop-drop, sets-eq xs l i h)
+    (sym (append_assoc (take i l) xs (drop (i + length xs) l)))
+
+pub record PuttingLog (ws : List Write) (old : List ℕ) (next to : ℕ) (new : List ℕ) : Type 0 where
   pub few : length ws ≤ 4096
   pub done : List Command
-  pub passed : Passed ws places.next done
+  pub passed : Passed ws next done
   pub is_read : IsRead (log_commands ws)
   pub room : length (packed_words (or_none (log_commands ws))) ≤ length old
-  pub to_is : places.to ≡ length (packed_words done)
+  pub to_is : to ≡ length (packed_words done)
   pub same : length new ≡ length old
   pub buffer : new ≡ sets old 0 (packed_words done)
 
 pub put_log_start : {ws : List Write} {old : List ℕ} → length ws ≤ 4096 → IsRead (log_commands ws)
-    → length (packed_words (or_none (log_commands ws))) ≤ length old
-    → PuttingLog ws old (record { next = 0; to = 0 }) old
+    → length (packed_words (or_none (log_commands ws))) ≤ length old → PuttingLog ws old 0 0 old
 unfolding packed_words
 put_log_start {ws} f g r = record {
   few = f;
@@ -346,49 +351,66 @@ put_log_start {ws} f g r = record {
   buffer = refl;
 }
 
-module _ {ws : List Write} {old : List ℕ} {places : Places} {new : List ℕ} (p : PuttingLog ws old places new) where
-  left : More p.done (or_none (log_commands ws)) (rest_commands places.next ws)
+module _ {ws : List Write} {old : List ℕ} {next to : ℕ} {new : List ℕ} (p : PuttingLog ws old next to new) where
+  left : More p.done (or_none (log_commands ws)) (rest_commands next ws)
   left =
-      behind p.done (or_none (log_commands ws)) (rest_commands places.next ws)
+      behind p.done (or_none (log_commands ws)) (rest_commands next ws)
       (sym p.passed.read ∙ sym (from_first ws) ∙ p.is_read)
 
-  pub group-fits : places.next < length ws → GroupFits ws places new
-  group-fits h = record {
-    few = p.few;
-    start = h;
-    is_read = rw left.is;
-    room = rw left.is (omega (
-      arith,
-      p.to_is,
-      p.room,
-      p.same,
-      ap (λ (l : List Command). length (packed_words l)) left.joined,
-      ap length (p.passed.apart h left.more),
-      length-append (packed_words p.done) (packed_words left.more),
-    ));
-  }
+  module _ (h : next < length ws) where
+    rest-room : to + length (packed_words left.more) ≤ length new
+    rest-room =
+        omega (
+          arith,
+          p.to_is,
+          p.room,
+          p.same,
+          ap (λ (l : List Command). length (packed_words l)) left.joined,
+          ap length (p.passed.apart h left.more),
+          length-append (packed_words p.done) (packed_words left.more),
+        )
 
-  pub put_log_more : places.next < length ws → {new' : List ℕ} {r : Places} → PutGroup ws places new new' r
-      → PuttingLog ws old r new'
-  put_log_more h q = record {
-    few = p.few;
-    done = p.done ++ q.cs;
-    passed = passed-more p.passed h q.group q.small;
-    is_read = p.is_read;
-    room = p.room;
-    to_is = omega (arith, q.end, p.to_is, length_more p.passed h q.group);
-    same = ap length q.buffer ∙ length-sets new places.to (group_words q.cs) ∙ p.same;
-    buffer = q.buffer
-        ∙ rw (
-          one_more p.passed h q.group,
-          sets-append old 0 (packed_words p.done) (group_words q.cs),
-          zero-add (length (packed_words p.done)),
-          ← p.to_is,
-          ← p.buffer,
-        );
-  }
+    -- there is room for the rest of the log's words
+    pub to-room : to ≤ length new
+    to-room = omega (arith, rest-room)
 
-  pub put_log_end : length ws ≤ places.next → new ≡ over (packed_words (or_none (log_commands ws))) old
+    length-rest : length (take (length new - to) (drop to new)) ≡ length new - to
+    length-rest = length-take-le (length new - to) (drop to new) (rw (length-drop to new) (omega arith))
+
+    pub group-fits : GroupFits ws next (take (length new - to) (drop to new))
+    group-fits = record {
+      few = p.few;
+      start = h;
+      is_read = rw left.is;
+      room = rw left.is (omega (arith, rest-room, length-rest));
+    }
+
+    pub put_log_more : {next' size : ℕ} (vs : List ℕ)
+        → PutGroup ws next next' (take (length new - to) (drop to new)) vs size
+        → PuttingLog ws old next' (to + size) (put_mid to (length new - to) new vs)
+    put_log_more vs q =
+        let room : to + length (group_words q.cs) ≤ length new =
+        omega (arith, q.room, q.counted, length-rest, to-room) in
+        let stored = put_rest new to (group_words q.cs) vs room q.buffer in
+        record {
+          few = p.few;
+          done = p.done ++ q.cs;
+          passed = passed-more p.passed h q.group (omega (arith, q.counted, q.small));
+          is_read = p.is_read;
+          room = p.room;
+          to_is = omega (arith, q.counted, p.to_is, length_more p.passed h q.group);
+          same = ap length stored ∙ length-sets new to (group_words q.cs) ∙ p.same;
+          buffer = stored
+              ∙ rw (
+                one_more p.passed h q.group,
+                sets-append old 0 (packed_words p.done) (group_words q.cs),
+                zero-add (length (packed_words p.done)),
+                ← p.to_is,
+                ← p.buffer,
+              );
+        }
+
+  pub put_log_end : length ws ≤ next → new ≡ over (packed_words (or_none (log_commands ws))) old
   put_log_end h =
       let e : log_commands ws ≡ commands p.done = from_first ws ∙ all-passed p.passed h in
       let k : p.done ≡ or_none (log_commands ws) = sym (rw e) in

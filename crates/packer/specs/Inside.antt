@@ -1,7 +1,7 @@
 -- What the functions inside the packer require and promise, of a log from one of its port writes on: nothing here is
 -- cited by a contract outside.
 use Rattle.std.specs.Prelude.{List, [], ◌∷◌, ◌⊎◌, ◌≡◌, ℕ, ◌+◌, ◌≤◌, ◌<◌, length, get_or, take, drop}
-use Rattle.std.proofs.lemmas.List.Edits.{sets}
+use Rattle.words.specs.Words.{over}
 use Rattle.commands.specs.Commands.{count, command_at}
 use Rattle.stream.specs.declared.Refused.{Refused}
 use Rattle.stream.specs.Refusal.{number_of}
@@ -11,7 +11,6 @@ use Rattle.stream.specs.Step.{port_step}
 use Rattle.stream.specs.Read.{Read, stopped, prepend, scan}
 use Rattle.stream.specs.Pack.{group_words, packed_words, or_none, IsRead}
 use Rattle.stream.specs.Unpack.{writes_for}
-use Rattle.packer.specs.declared.Places.{Places}
 
 -- a log as the code reads it: an address and a value, an address and a value
 abbrev pub writes_of : List (List ℕ) → List Write
@@ -67,17 +66,18 @@ pub record SizedGroup (ws : List Write) (i next size : ℕ) : Type 0 where
   pub counted : size ≡ length (group_words cs)
   pub small : size ≤ 130
 
--- a log that the packer takes is accepted where reading goes on, and its packed words fit the buffer where writing does
-pub record GroupFits (ws : List Write) (from : Places) (old : List ℕ) : Type 0 where
+-- a log that the packer takes is accepted from write i on, and its packed words fit a buffer
+pub record GroupFits (ws : List Write) (i : ℕ) (old : List ℕ) : Type 0 where
   pub few : length ws ≤ 4096
-  pub start : from.next < length ws
-  pub is_read : IsRead (rest_commands from.next ws)
-  pub room : from.to + length (packed_words (or_none (rest_commands from.next ws))) ≤ length old
+  pub start : i < length ws
+  pub is_read : IsRead (rest_commands i ws)
+  pub room : length (packed_words (or_none (rest_commands i ws))) ≤ length old
 
--- the words of a command word's commands are stored
-pub record PutGroup (ws : List Write) (from : Places) (old new : List ℕ) (to : Places) : Type 0 where
+-- the words of the commands of one command word are stored, so many of them
+pub record PutGroup (ws : List Write) (i next : ℕ) (old new : List ℕ) (size : ℕ) : Type 0 where
   pub cs : List Command
-  pub group : IsGroup ws from.next to.next cs
-  pub end : to.to ≡ from.to + length (group_words cs)
-  pub small : length (group_words cs) ≤ 130
-  pub buffer : new ≡ sets old from.to (group_words cs)
+  pub group : IsGroup ws i next cs
+  pub counted : size ≡ length (group_words cs)
+  pub small : size ≤ 130
+  pub room : size ≤ length old
+  pub buffer : new ≡ over (group_words cs) old

@@ -1,11 +1,12 @@
 use native.Mathlib.Omega.{arith}
 use Rattle.std.proofs.lemmas.Result.{err_from_is_err_and}
+use Rattle.packer.specs.Inside.{writes_of}
 use Rattle.packer.proofs.ValueLaws.{length-writes_of}
 use Rattle.packer.proofs.GroupLaws.{measure_start, measure_more, measure_stopped, measure_end}
 use Rattle.packer.proofs.measure.Goals as goal
 
 pub loop-next-init : goal.loop-next-init
-loop-next-init c = measure_start (omega (arith, length-writes_of c.args.log.now))
+loop-next-init c = measure_start (writes_of c.args.log.now)
 
 pub returns-in_err-total : goal.returns-in_err-total
 returns-in_err-total c =

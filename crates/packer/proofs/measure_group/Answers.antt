@@ -14,8 +14,7 @@ use Rattle.packer.proofs.measure_group.Goals.{else-loop-slot-test, then-loop-slo
 
 pub loop-slot-init : goal.loop-slot-init
 loop-slot-init c =
-    let n = length-writes_of c.args.log.now in
-    group-start (omega (arith, n)) (omega (arith, n))
+    group-start (writes_of c.args.log.now) c.args.next.now (omega (arith, length-writes_of c.args.log.now))
 
 pub returns-in_err-count : goal.returns-in_err-count
 returns-in_err-count c =

@@ -3,9 +3,9 @@ use mathlib.Core.Path.{◌≡◌, sym, ap, ◌∙◌}
 use Prim.Native.Nat.{ℕ, ◌<◌}
 use native.Mathlib.Omega.{arith}
 use lib.ListN.{length, get_or}
-use Rattle.commands.specs.Commands.{lookup, command_at, count}
+use Rattle.commands.specs.Commands.{lookup, command_at}
 use Rattle.commands.proofs.Commands.{port_takes, port-unknown}
-use Rattle.packer.specs.Inside.{writes_of, write_at, byte_at, Stops}
+use Rattle.packer.specs.Inside.{writes_of, write_at, byte_at}
 use Rattle.packer.proofs.ValueLaws.{length-writes_of, address-of}
 use Rattle.packer.proofs.CommandWalk.{walk_none, walk_start, walk_short, walk_no_port, walk_other, walk_more, walk_end}
 use Rattle.packer.proofs.next_command.Goals as goal

@@ -4,14 +4,11 @@ use mathlib.Core.Path.{◌≡◌, sym, ap, ◌∙◌}
 use Prim.Native.Nat.{◌+◌, ◌≤◌}
 use native.Mathlib.Omega.{arith}
 use lib.ListN.{length, get_or}
-use Rattle.std.specs.Prelude.{is_some, unwrap_or}
-use Rattle.commands.specs.Commands.{known, count, command_at}
-use Rattle.commands.proofs.Commands.{port_of_command}
-use Rattle.stream.proofs.UnpackLaws.{writes_for_bounds}
+use Rattle.commands.specs.Commands.{count, command_at}
 use Rattle.packer.specs.Inside.{writes_of, byte_at}
 use Rattle.packer.proofs.ValueLaws.{length-writes_of, address-of}
 use Rattle.packer.proofs.PutLaws.{put_group_start, next-command, values-room}
-use Rattle.packer.proofs.PutLaws.{put_group_more, Stored, stored_none, stored_some, end-room, dummy-room, put_dummy, put_plain}
+use Rattle.packer.proofs.PutLaws.{put_group_more, Stored, stored_none, stored_some, size-room, dummy-room, put_dummy, put_plain}
 use Rattle.packer.proofs.put_group.Goals as goal
 use Rattle.packer.proofs.put_group.Goals.{After-count-count, Else-log-next, Left-loop-slot}
 use Rattle.packer.proofs.put_group.Goals.{then-count-eq0, else-count-eq0}
@@ -43,7 +40,7 @@ counted c = c.count-count.ensures ∙ ap count (byte-is c)
 -- and there is room for them
 room : (c : After-count-count)
     → let n = c.count-count.result in
-    (c.loop-slot.next + n ≤ length (writes_of c.args.log.now)) × (c.loop-slot.end + n ≤ length c.loop-slot.buffer)
+    (c.loop-slot.next + n ≤ length (writes_of c.args.log.now)) × (c.loop-slot.size + n ≤ length c.loop-slot.words)
 room c =
     values-room c.loop-slot.invariant (omega (arith, length-writes_of c.args.log.now)) c.loop-slot-test.true _
     (counted c)
@@ -73,12 +70,12 @@ loop-slot-preserved c =
     let here = (goal.at.loop-slot-preserved c).After-count-count in
     let n = length-writes_of c.args.log.now in
     let log : c.loop-slot.next + c.count-count.result ≤ length c.args.log.now = omega (arith, n, room here) in
-    let stored : Stored (writes_of c.args.log.now) c.count-count.result c.loop-slot.next c.loop-slot.end
-        c.loop-slot.buffer c.if-count-eq0.next c.if-count-eq0.end c.if-count-eq0.buffer =
+    let stored : Stored (writes_of c.args.log.now) c.count-count.result c.loop-slot.next c.loop-slot.size
+    c.loop-slot.words c.if-count-eq0.next c.if-count-eq0.size c.if-count-eq0.words =
     elim c.if-count-eq0.branch [
-      | then-count-eq0 w ↦ stored_none w.if-count-eq0.true w.next-is w.end-is w.buffer-is
-      | else-count-eq0 w ↦ stored_some c.args.log.now w.if-count-eq0.false log (room here).1 w.put_values.ensures w.next-is w.end-is
-            w.buffer-is
+      | then-count-eq0 w ↦ stored_none w.if-count-eq0.true w.next-is w.size-is w.words-is
+      | else-count-eq0 w ↦ stored_some c.args.log.now w.if-count-eq0.false log (room here).1 w.put_values.ensures w.next-is w.size-is
+          w.words-is
     ] in
     put_group_more c.loop-slot.invariant (omega (arith, n)) c.loop-slot-test.true _ (counted here) stored
     (c.with_byte-word.ensures.value ∙ rw (byte-is here)) c.with_byte-word.ensures.upper_bound
@@ -93,18 +90,17 @@ ways c =
       | else-loop-slot-test w ↦ inl (omega (arith, w.loop-slot-test.false, c.loop-slot.invariant.taken.most))
     ]
 
-pub bounds-buffer-from : goal.bounds-buffer-from
-bounds-buffer-from c =
+pub bounds-words-0 : goal.bounds-words-0
+bounds-words-0 c =
     omega (
       arith,
-      end-room c.loop-slot.invariant (ways (goal.at.bounds-buffer-from c).Left-loop-slot),
-      c.loop-slot.invariant.end_is,
+      size-room c.loop-slot.invariant (ways (goal.at.bounds-words-0 c).Left-loop-slot),
+      c.loop-slot.invariant.size_is,
     )
 
-pub bounds-buffer-end : goal.bounds-buffer-end
-bounds-buffer-end c =
-    dummy-room c.loop-slot.invariant (ways (goal.at.bounds-buffer-end c).Left-loop-slot)
-    c.if-none.true
+pub bounds-words-size : goal.bounds-words-size
+bounds-words-size c =
+    dummy-room c.loop-slot.invariant (ways (goal.at.bounds-words-size c).Left-loop-slot) c.if-none.true
 
 pub returns-then-none : goal.returns-then-none
 returns-then-none c =
