@@ -99,7 +99,7 @@ fn measure(log: &[Write]) -> Result<usize, Refused>
     Ok(total)
 }
 
-// The values of some writes into as many words.
+// The values of some writes into as many words. By index: of a `zip` over `iter_mut` a proof knows no word that is written.
 fn put_values(writes: &[Write], words: &mut [u32])
     requires { length writes.now ≡ length words.old }
     ensures { words.new ≡ values (writes_of writes.now) }
@@ -136,7 +136,7 @@ fn put_group(log: &[Write], next: &mut usize, words: &mut [u32]) -> usize
         let [address, _] = log[*next];
         let byte = command_of_port(address);
         let count = commands::count(byte);
-        // Told apart for the same reason: up to 3 ns a write.
+        // Told apart, so that behind a command without parameters the next can be read at once: up to 3 ns a write.
         if count == 0 {
             *next += 1;
         } else {
