@@ -4,7 +4,7 @@
 
 ghost use Rattle.std.specs.Prelude.{◌≡◌, ◌+◌, ◌*◌, ◌^◌, ◌≤◌, ◌<◌, length, MatchResult};
 ghost use Rattle.words.specs.Words.{over};
-ghost use Rattle.stream.specs.Read.{writes, log_commands};
+ghost use Rattle.stream.specs.Read.{log_commands};
 ghost use Rattle.stream.specs.Output.{answer_to, measured, Stores};
 ghost use Rattle.stream.specs.Pack.{packed_words, or_none, IsRead, pack as Pack·pack};
 ghost use Rattle.packer.specs.Inside.{writes_of, values, Begins, Stops, SizedGroup};
@@ -12,6 +12,9 @@ ghost use Rattle.packer.specs.Inside.{GroupFits, PutGroup};
 
 use commands::{command_at, command_of_port, port_parameters};
 use stream::{MOST_WORDS, Refusal, Refused};
+
+// A port write of a log: an address and a value.
+type Write = [u32; 2];
 
 // How many commands a command word holds.
 const SLOTS: usize = 4;
@@ -29,7 +32,7 @@ fn refused(refusal: Refusal, place: usize) -> Refused
 
 // The command that begins at the next write: how many parameters it takes. `next` goes on behind it. "first bad pair (5
 // before 6), 8"
-fn next_command(log: &[[u32; 2]], next: &mut usize) -> Result<usize, Refused>
+fn next_command(log: &[Write], next: &mut usize) -> Result<usize, Refused>
     requires few { length log.now ≤ 4096 }
     requires within { next.old < length log.now }
     ensures { MatchResult result
@@ -63,7 +66,7 @@ fn next_command(log: &[[u32; 2]], next: &mut usize) -> Result<usize, Refused>
 
 // The commands from the next write on that one command word holds, four or the last ones: how many words they are packed
 // into. `next` goes on behind them.
-fn measure_group(log: &[[u32; 2]], next: &mut usize) -> Result<usize, Refused>
+fn measure_group(log: &[Write], next: &mut usize) -> Result<usize, Refused>
     requires few { length log.now ≤ 4096 }
     requires within { next.old < length log.now }
     ensures { MatchResult result
@@ -84,7 +87,7 @@ fn measure_group(log: &[[u32; 2]], next: &mut usize) -> Result<usize, Refused>
 }
 
 // How many words the log is packed into.
-fn measure(log: &[[u32; 2]]) -> Result<usize, Refused>
+fn measure(log: &[Write]) -> Result<usize, Refused>
     requires { length log.now ≤ 4096 }
     ensures { answer_to result ≡ measured packed_words (log_commands (writes_of log.now)) }
 {
@@ -96,12 +99,12 @@ fn measure(log: &[[u32; 2]]) -> Result<usize, Refused>
     Ok(total)
 }
 
-// The values of some writes into as many words.
-fn put_values(log: &[[u32; 2]], words: &mut [u32])
-    requires { length log.now ≡ length words.old }
-    ensures { words.new ≡ values (writes_of log.now) }
+// The values of some writes into as many words. By index: of a `zip` over `iter_mut` a proof knows no word that is written.
+fn put_values(writes: &[Write], words: &mut [u32])
+    requires { length writes.now ≡ length words.old }
+    ensures { words.new ≡ values (writes_of writes.now) }
 {
-    for (j, [_, value]) in log.iter().enumerate() {
+    for (j, [_, value]) in writes.iter().enumerate() {
         words[j] = *value;
     }
 }
@@ -119,7 +122,7 @@ fn with_byte(word: u32, byte: u8, slot: usize) -> u32
 
 // The packed words of the commands from the next write of an accepted log on that one command word holds, into the first
 // words of a buffer: how many they are. `next` goes on behind the commands.
-fn put_group(log: &[[u32; 2]], next: &mut usize, words: &mut [u32]) -> usize
+fn put_group(log: &[Write], next: &mut usize, words: &mut [u32]) -> usize
     requires { GroupFits (writes_of log.now) next.old words.old }
     ensures { PutGroup (writes_of log.now) next.old next.new words.old words.new result }
 {
@@ -133,7 +136,7 @@ fn put_group(log: &[[u32; 2]], next: &mut usize, words: &mut [u32]) -> usize
         let [address, _] = log[*next];
         let byte = command_of_port(address);
         let count = commands::count(byte);
-        // Told apart for the same reason: up to 3 ns a write.
+        // Told apart, so that behind a command without parameters the next can be read at once: up to 3 ns a write.
         if count == 0 {
             *next += 1;
         } else {
@@ -153,7 +156,7 @@ fn put_group(log: &[[u32; 2]], next: &mut usize, words: &mut [u32]) -> usize
 }
 
 // The packed words of an accepted log.
-fn put_log(log: &[[u32; 2]], buffer: &mut [u32])
+fn put_log(log: &[Write], buffer: &mut [u32])
     requires few { length log.now ≤ 4096 }
     requires read { IsRead (log_commands (writes_of log.now)) }
     requires fits { length (packed_words (or_none (log_commands (writes_of log.now))))
@@ -176,14 +179,14 @@ pub fn pack(log: &[u32], output: &mut [u32]) -> Result<u32, Refused>
     if log.len() % 2 == 1 || MOST_WORDS < log.len() {
         return Err(refused(Refusal::NoInput, 0));
     }
-    let (log, _) = log.as_chunks::<2>();
-    let length = measure(log)?;
+    let (writes, _) = log.as_chunks::<2>();
+    let length = measure(writes)?;
     if MOST_WORDS < length {
         return Err(refused(Refusal::TooLong, 0));
     }
     if output.len() < length {
         return Err(refused(Refusal::OutputTooShort, 0));
     }
-    put_log(log, output);
+    put_log(writes, output);
     Ok(length as u32)
 }

@@ -14,7 +14,7 @@ loop-j-init c = sym (over_none c.args.words.now)
 
 pub loop-j-preserved : goal.loop-j-preserved
 loop-j-preserved c =
-    let log = c.args.log.now in
+    let log = c.args.writes.now in
     let j = c.loop-j.j in
     let n = length-values (writes_of log) ∙ length-writes_of log in
     let v : get_or (values (writes_of log)) j 0 ≡ get_or (get_or log j []) 1 0 =
@@ -25,7 +25,7 @@ loop-j-preserved c =
 
 pub returns : goal.returns
 returns c =
-    let log = c.args.log.now in
+    let log = c.args.writes.now in
     let n = length-values (writes_of log) ∙ length-writes_of log in
     let j : c.loop-j.j ≡ length (values (writes_of log)) = omega (arith, n) in
     c.loop-j.invariant
