@@ -12,7 +12,7 @@ use packer::pack;
 use state::{Engine, ListAnswer};
 use stream::OutputAnswer;
 
-// What the packer answered, and both ends.
+// What the packer answered, and both ends: the records that C is answered with, which the claim names (specs/Both.antt).
 #[derive(Clone, Copy)]
 pub struct BothEnds {
     pub packed: OutputAnswer,

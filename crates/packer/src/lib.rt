@@ -93,6 +93,7 @@ fn measure(log: &[Write]) -> Result<usize, Refused>
 {
     let mut next = 0;
     let mut total = 0;
+    // a group says where the next begins
     while next < log.len() {
         total += measure_group(log, &mut next)?;
     }
@@ -166,6 +167,7 @@ fn put_log(log: &[Write], buffer: &mut [u32])
 {
     let mut next = 0;
     let mut to = 0;
+    // a group says where the next begins
     while next < log.len() {
         to += put_group(log, &mut next, &mut buffer[to..]);
     }

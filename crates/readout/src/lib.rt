@@ -183,6 +183,7 @@ fn put_vertex_line(text: &mut Text, vertex: &[i32; VERTEX_WIDTH])
     ensures puts { text.new ≡ with_bytes text.old (vertex_line vertex.now) }
     ensures within { text.new.length ≤ text.old.length + 60 }
 {
+    // by index: the borrow checker does not cover a pattern `[first, rest @ ..]` behind a reference
     put_signed(text, vertex[0]);
     put_numbers_line(text, b"", &vertex[1..]);
 }

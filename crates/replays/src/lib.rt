@@ -33,8 +33,9 @@ pub fn source_of(name: &[u8]) -> Option<Form>
     }
 }
 
-// The room that an argument gives: one to nine decimal digits; 0, which is no room, for any other text. `str::parse`
-// takes a sign too.
+// The room that an argument gives: one to nine decimal digits; 0, which is no room, for any other text: the start
+// refuses it like any number out of range, so an `Option` would be taken apart to the same 0. `str::parse` takes a sign
+// too.
 pub fn room_of(digits: &[u8]) -> usize
     ensures { result ≡ room_of digits.now }
 {
@@ -60,7 +61,7 @@ pub fn report_buffer() -> [u8; 433649]
     [0; 433649]
 }
 
-// The line of a refusal, where there was one.
+// The line of a refusal, where there was one: its number is that of the record for C, 0 for none.
 fn put_refusal(text: &mut Text, number: u32, place: u32)
     requires { HasRoom text.old 30 }
     ensures { text.new ≡ with_bytes text.old (refusal_text number place) }

@@ -90,7 +90,8 @@ pub enum OpenList {
 }
 
 // The open list by its number (`list_of`), and the vertices that wait for its next polygon: the first `count` of three.
-// Those past the count are free: nothing reads them.
+// Those past the count are free: nothing reads them. A number for the list, and three fields with a count: for C, which has
+// no enum here.
 #[repr(C)]
 #[derive(Clone, Copy)]
 pub struct Waiting {
@@ -161,7 +162,7 @@ pub struct Engine {
     pub stream: Stream,
 }
 
-// What a call that gives an engine answers: 0, or the number that it refuses with; a place; the engine.
+// What a call that gives an engine answers: 0, or the number that it refuses with; a place; the engine. Numbers, for C.
 #[repr(C)]
 #[derive(Clone, Copy)]
 pub struct Answer {

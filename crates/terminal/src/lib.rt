@@ -26,6 +26,7 @@ pub fn read_full<R: Read>(reader: &mut R, buffer: &mut [u8]) -> io::Result<usize
         × Consumes (R.remaining reader.old) (R.remaining reader.new) (take n buffer.new)) }
 {
     let mut count = 0;
+    // a read says how far it came
     while count < buffer.len() {
         let read = reader.read(&mut buffer[count..])?;
         if read == 0 {

@@ -75,6 +75,7 @@ fn measure(words: &[u32], place: usize) -> Result<u32, Refused>
 {
     let mut i = place;
     let mut total = 0;
+    // a command word says where the next stands
     while i < words.len() {
         let Some(extent) = extent_of(words[i]) else {
             return Err(refused(Refusal::Hole, i));
@@ -142,6 +143,7 @@ fn put_list(words: &[u32], place: usize, buffer: &mut [u32])
 {
     let mut i = place;
     let mut to = 0;
+    // a command word says where the next stands
     while i < words.len() {
         Places { next: i, to } = put_word(words, i, buffer, to);
     }
