@@ -8,7 +8,7 @@ use feeding::{polygon_buffer, vertex_buffer};
 use registers::status;
 use state::{Engine, ListAnswer, MOST_POLYGONS, MOST_VERTICES};
 use std::io;
-use stream::{Form, is_input, longest_list};
+use stream::{Form, Refusal, is_input, longest_list};
 use terminal::{input_buffer, read_full};
 use words::read_words;
 
@@ -55,7 +55,7 @@ fn main(rt: HostRuntime) -> io::Result<()> {
     let mut input = input_buffer();
     let read = read_full(&mut rt.stdin(), &mut input)?;
     if !is_input(Form::Log, read) {
-        return print_refused(&rt, 7, 0);
+        return print_refused(&rt, Refusal::NoInput.into(), 0);
     }
     let mut log = longest_list();
     read_words(&input[..read], &mut log);

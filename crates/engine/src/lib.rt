@@ -107,6 +107,7 @@ pub fn feed_as(
 
 // A whole list in one call, of any length: 1 and 2, also for an empty one, then word by word until one is refused, with
 // 4 or 3. The engine and both buffers are then as the words before left them; where there are none, as they were given.
+// Words and writes have a name each over `feed_as`, for C and for the two sides of demand 3.
 pub fn feed_words(
     e: Engine,
     words: &[u32],

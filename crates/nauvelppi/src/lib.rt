@@ -51,7 +51,7 @@ fn convert_to(
     Ok(length)
 }
 
-// A log as bytes is packed to a list as bytes, little-endian words both.
+// A log as bytes is packed to a list as bytes, little-endian words both. Two entries over one function, for C's two names.
 #[unsafe(no_mangle)]
 pub extern "C" fn nauvelppi_pack(log: &[u8], output: &mut [u8]) -> OutputAnswer
     ensures { StoresBytes (on_all_bytes pack (length output.old) log.now) result

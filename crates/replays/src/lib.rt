@@ -20,7 +20,8 @@ use state::{Counts, Engine, ListAnswer};
 use stream::{Form, Refusal, is_input, longest_list};
 use words::read_words;
 
-// The form of the input that an argument names: packed words, or a log of port writes.
+// The form of the input that an argument names: packed words, or a log of port writes. A function: `Form` is of a crate
+// below, so no `TryFrom` can stand here.
 pub fn source_of(name: &[u8]) -> Option<Form>
     ensures { result ≡ source_of name.now }
 {

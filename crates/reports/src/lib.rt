@@ -47,7 +47,8 @@ pub fn log_report_buffer() -> [u8; 294929]
     [0; 294929]
 }
 
-// What the program `unpack` writes for its input, from the buffer's first byte on; how many bytes that is.
+// What the program `unpack` writes for its input, from the buffer's first byte on; how many bytes that is. Two programs,
+// each with a name and a size of its own over `put_report`.
 pub fn unpack_report(input: &[u8], text: &mut [u8; 294929]) -> usize
     ensures value { result ≡ length (unpack_report input.now) }
     ensures text_after { text.new ≡ over (unpack_report input.now) text.old }

@@ -144,7 +144,7 @@ pub struct Core {
 // The command stream between two calls. `queue` is the rest of the packed command word, its next command lowest; bytes
 // above its last command are free. `held` has the parameters so far of that command, or of the port command that is
 // pending: the first `count` of 32. Those past the count are free: no call reads what another left there. `dummy`: the
-// dummy word is due; `port`: the port command that is pending, 0 for none.
+// dummy word is due; `port`: the port command that is pending, 0 for none. An array with a count, and 0: for C.
 #[repr(C)]
 #[derive(Clone, Copy)]
 pub struct Stream {
