@@ -1,4 +1,4 @@
--- Laws of packing and unpacking, over the direction.
+-- Laws of packing and unpacking, over the form of the input.
 use mathlib.Core.Bool.{Bool, true, false}
 use mathlib.Core.List.{List}
 use mathlib.Core.Path.{◌≡◌, refl, ◌∙◌}

@@ -1,4 +1,4 @@
--- Packing and unpacking, over the direction: document 01, "Packer and unpacker".
+-- Packing and unpacking, over the form of the input: document 01, "Packer and unpacker".
 use Rattle.std.specs.Prelude.{List, ℕ}
 use Rattle.stream.specs.declared.Form.{Form}
 use Rattle.stream.specs.declared.Form.TheVariants.{Packed, Log}

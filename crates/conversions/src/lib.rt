@@ -1,4 +1,4 @@
-// Packer and unpacker over the direction, and on input that is given as bytes.
+// Packer and unpacker over the form of the input, and on input that is given as bytes.
 #![tactic(auto)]
 
 ghost use Rattle.std.specs.Prelude.{length};
@@ -6,7 +6,7 @@ ghost use Rattle.stream.specs.Output.{answer_to, on_bytes, Stores};
 ghost use Rattle.conversions.specs.Convert.{convert};
 
 use packer::pack;
-use stream::{Form, Refusal, Refused, is_input, longest_list};
+use stream::{Form, Refusal, Refused, is_input, longest_list, refused_at};
 use unpacker::unpack;
 use words::read_words;
 
@@ -27,10 +27,7 @@ pub fn convert_bytes(form: Form, input: &[u8], output: &mut [u32]) -> Result<u32
         output.old output.new }
 {
     if !is_input(form, input.len()) {
-        return Err(Refused {
-            refusal: Refusal::NoInput,
-            place: 0,
-        });
+        return Err(refused_at(Refusal::NoInput, 0));
     }
     let mut words = longest_list();
     read_words(input, &mut words);

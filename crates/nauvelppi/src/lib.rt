@@ -24,7 +24,9 @@ use registers::{
     overflow, status, vector_matrix,
 };
 use state::{Answer, Engine, ListAnswer};
-use stream::{Form, OutputAnswer, Refusal, Refused, call_number, longest_list, longest_log};
+use stream::{
+    Form, OutputAnswer, Refusal, Refused, call_number, longest_list, longest_log, refused_at,
+};
 use words::write_words;
 
 // A log is packed to a list, and a packed list is unpacked to a log. Both are bytes, little-endian words;
@@ -40,10 +42,7 @@ fn convert_to(
         (answer_to result) output.old output.new }
 {
     if output.len() % 4 != 0 {
-        return Err(Refused {
-            refusal: Refusal::NoInput,
-            place: 0,
-        });
+        return Err(refused_at(Refusal::NoInput, 0));
     }
     let capacity = (output.len() / 4).min(words.len());
     let length = convert_bytes(form, input, &mut words[..capacity])?;
@@ -110,7 +109,7 @@ pub extern "C" fn nauvelppi_port_write(
     port_write(e, address, value, vertices, polygons)
 }
 
-// What the entry that updates the caller's own record answers: 0, or the number that it refuses with; a place.
+// What the entry that updates the caller's own record answers: 0, or the number that it refuses with; a place. For C.
 #[repr(C)]
 #[derive(Clone, Copy)]
 pub struct CallAnswer {

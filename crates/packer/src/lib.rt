@@ -11,24 +11,13 @@ ghost use Rattle.packer.specs.Inside.{writes_of, values, Begins, Stops, SizedGro
 ghost use Rattle.packer.specs.Inside.{GroupFits, PutGroup};
 
 use commands::{command_at, command_of_port, port_parameters};
-use stream::{MOST_WORDS, Refusal, Refused};
+use stream::{MOST_WORDS, Refusal, Refused, refused_at};
 
 // A port write of a log: an address and a value.
 type Write = [u32; 2];
 
-// How many commands a command word holds.
+// How many commands a command word holds. Its loops end early where the log does.
 const SLOTS: usize = 4;
-
-// A refusal at a write.
-fn refused(refusal: Refusal, place: usize) -> Refused
-    requires { place < 2 ^ 32 }
-    ensures { result ≡ record { refusal = refusal; place = place } }
-{
-    Refused {
-        refusal,
-        place: place as u32,
-    }
-}
 
 // The command that begins at the next write: how many parameters it takes. `next` goes on behind it. "first bad pair (5
 // before 6), 8"
@@ -42,14 +31,14 @@ fn next_command(log: &[Write], next: &mut usize) -> Result<usize, Refused>
     let first = *next;
     let [address, _] = log[first];
     let Some(count) = port_parameters(address) else {
-        return Err(refused(Refusal::NoPort, first));
+        return Err(refused_at(Refusal::NoPort, first));
     };
     // Write by write, so that the next command can be read before the number of parameters is known: where that number is
     // added, packing takes up to 2 ns a write longer.
     *next += 1;
     for _parameter in 1..count {
         let Some([other, _]) = log.get(*next) else {
-            return Err(refused(Refusal::Incomplete, first));
+            return Err(refused_at(Refusal::Incomplete, first));
         };
         if *other != address {
             let refusal = if command_at(*other) == 0 {
@@ -57,7 +46,7 @@ fn next_command(log: &[Write], next: &mut usize) -> Result<usize, Refused>
             } else {
                 Refusal::OtherPort
             };
-            return Err(refused(refusal, *next));
+            return Err(refused_at(refusal, *next));
         }
         *next += 1;
     }
@@ -179,15 +168,15 @@ pub fn pack(log: &[u32], output: &mut [u32]) -> Result<u32, Refused>
         output.old output.new }
 {
     if log.len() % 2 == 1 || MOST_WORDS < log.len() {
-        return Err(refused(Refusal::NoInput, 0));
+        return Err(refused_at(Refusal::NoInput, 0));
     }
     let (writes, _) = log.as_chunks::<2>();
     let length = measure(writes)?;
     if MOST_WORDS < length {
-        return Err(refused(Refusal::TooLong, 0));
+        return Err(refused_at(Refusal::TooLong, 0));
     }
     if output.len() < length {
-        return Err(refused(Refusal::OutputTooShort, 0));
+        return Err(refused_at(Refusal::OutputTooShort, 0));
     }
     put_log(writes, output);
     Ok(length as u32)

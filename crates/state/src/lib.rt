@@ -172,7 +172,7 @@ pub struct Answer {
 }
 
 // What a call of many words answers: 0, or the number that the first refused word is refused with; its index; how many
-// were taken; the engine after those.
+// were taken; the engine after those. For C.
 #[repr(C)]
 #[derive(Clone, Copy)]
 pub struct ListAnswer {

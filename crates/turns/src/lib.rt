@@ -1,6 +1,6 @@
 // The command stream by turns: the next command of packed words or of a log, with those of its parameters that are
-// there. Document 01, "Commands and their parameters". A feed runs the commands. A log is not cut into pairs here, since
-// one loop takes words of either form. `Fit` stays a clause: as a ghost field each literal of a `Begun` would have to prove
+// there. Document 01, "Commands and their parameters". A feed runs the commands. A log is not cut into pairs here: the
+// loop of a feed holds words of either form, and would cut them anew at each turn. `Fit` stays a clause: as a ghost field each literal of a `Begun` would have to prove
 // it, where `Turned` says it once for a turn.
 #![tactic(auto)]
 

@@ -15,7 +15,7 @@ ghost use Rattle.stream.specs.Unpack.{unpack as Unpack·unpack};
 ghost use Rattle.unpacker.specs.Inside.{extent_of, values_of, log_from, WordFits, PutWord};
 
 use commands::{parameters, port_of};
-use stream::{MOST_WORDS, Refusal, Refused, writes_for};
+use stream::{MOST_WORDS, Refusal, Refused, refused_at, writes_for};
 
 // What the commands of a command word take: the words behind it that are theirs, its dummy among them; and how many
 // port writes they are.
@@ -30,17 +30,6 @@ struct Extent {
 struct Places {
     next: usize,
     to: usize,
-}
-
-// A refusal at a word of the list.
-fn refused(refusal: Refusal, place: usize) -> Refused
-    requires { place < 2 ^ 32 }
-    ensures { result ≡ record { refusal = refusal; place = place } }
-{
-    Refused {
-        refusal,
-        place: place as u32,
-    }
 }
 
 // The extent of the commands of a command word; none where the word has a hole.
@@ -78,11 +67,11 @@ fn measure(words: &[u32], place: usize) -> Result<u32, Refused>
     // a command word says where the next stands
     while i < words.len() {
         let Some(extent) = extent_of(words[i]) else {
-            return Err(refused(Refusal::Hole, i));
+            return Err(refused_at(Refusal::Hole, i));
         };
         let next = i + 1;
         if words.len() - next < extent.words {
-            return Err(refused(Refusal::Incomplete, i));
+            return Err(refused_at(Refusal::Incomplete, i));
         }
         i = next + extent.words;
         total += 2 * extent.writes;
@@ -156,11 +145,11 @@ pub fn unpack_from(words: &[u32], place: usize, output: &mut [u32]) -> Result<u3
         output.old output.new }
 {
     if MOST_WORDS < words.len() {
-        return Err(refused(Refusal::NoInput, 0));
+        return Err(refused_at(Refusal::NoInput, 0));
     }
     let length = measure(words, place)?;
     if output.len() < length as usize {
-        return Err(refused(Refusal::OutputTooShort, 0));
+        return Err(refused_at(Refusal::OutputTooShort, 0));
     }
     put_list(words, place, output);
     Ok(length)

@@ -12,10 +12,11 @@ use Rattle.conversions.proofs.convert_bytes.Goals.{After-read_words}
 
 pub returns-then-not-is_input : goal.returns-then-not-is_input
 returns-then-not-is_input c =
-    stores-none 7 0 _ c.args.output.now
+    rw c.refused_at.ensures
+    (stores-none 7 0 _ c.args.output.now
     (input-refused c.args.form (length c.args.output.now) c.args.input.now
     (sym c.is_input.ensures ∙ c.if-not-is_input.true))
-    refl
+    refl)
 
 -- the input is read
 read : (c : After-read_words) → InputRead c.args.form c.args.input.now c.read_words.new.buffer

@@ -13,7 +13,8 @@ use Rattle.nauvelppi.proofs.convert_to.Goals.{After-convert_bytes}
 
 pub returns-then-output-ne0 : goal.returns-then-output-ne0
 returns-then-output-ne0 c =
-    refused-output (convert c.args.form) c.args.input.now c.args.output.now _ c.if-output-ne0.true refl
+    rw c.refused_at.ensures
+    (refused-output (convert c.args.form) c.args.input.now c.args.output.now _ c.if-output-ne0.true refl)
 
 -- the call of the conversion, and what it came to
 made : (c : After-convert_bytes) (r : Result ℕ Refused) → c.convert_bytes.result ≡ r

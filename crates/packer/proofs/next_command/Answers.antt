@@ -21,7 +21,7 @@ port c =
 
 pub returns-in_default : goal.returns-in_default
 returns-in_default c =
-    rw c.refused.ensures
+    rw c.refused_at.ensures
     (walk_none (writes_of c.args.log.now) c.args.next.now (omega (arith, length-writes_of c.args.log.now))
     (port-unknown _ (port (goal.at.returns-in_default c).After-port_parameters ∙ c.in_default.is)))
 
@@ -35,7 +35,7 @@ loop-parameter-init c =
 pub returns-in_default-get : goal.returns-in_default-get
 returns-in_default-get c =
     let n = length-writes_of c.args.log.now in
-    rw c.refused-in_default-get.ensures
+    rw c.refused_at-in_default-get.ensures
     (walk_short c.loop-parameter.invariant c.loop-parameter-test.true
     (omega (arith, n, c.in_default-get.ensures.lookup.3)))
 
@@ -54,7 +54,7 @@ pub returns-then-other-address : goal.returns-then-other-address
 returns-then-other-address c =
     let here = (goal.at.returns-then-other-address c).In-Some-get in
     let w = c.loop-parameter.invariant in
-    rw c.refused-then-other-address.ensures
+    rw c.refused_at-then-other-address.ensures
     (elim c.if-command_at-eq0.branch [
       | then-command_at-eq0 v ↦
           rw v.refusal-is

@@ -25,7 +25,7 @@ returns-then-log-eq1 c =
       | then-log-eq1-via-then-log-eq1 w ↦ log_odd capacity log w.if-log-eq1.true
       | then-log-eq1-via-else-log-eq1+then-log-gt-MOST_WORDS w ↦ log_long capacity log w.if-log-gt-MOST_WORDS.true
     ] in
-    rw c.refused.ensures (stores-none 7 0 _ c.args.output.now seven refl)
+    rw c.refused_at.ensures (stores-none 7 0 _ c.args.output.now seven refl)
 
 -- number 7 does not fall
 allowed : (c : After-as_chunks) → Allowed c.args.log.now
@@ -54,7 +54,7 @@ answer c =
 pub returns-then-length-gt-MOST_WORDS : goal.returns-then-length-gt-MOST_WORDS
 returns-then-length-gt-MOST_WORDS c =
     let here = goal.at.returns-then-length-gt-MOST_WORDS c in
-    rw c.refused-then-length-gt-MOST_WORDS.ensures
+    rw c.refused_at-then-length-gt-MOST_WORDS.ensures
     (stores-none 9 0 _ c.args.output.now
     (list-long (length c.args.output.now) (allowed here.After-as_chunks) _ (answer here.In_ok-length)
     c.if-length-gt-MOST_WORDS.true)
@@ -63,7 +63,7 @@ returns-then-length-gt-MOST_WORDS c =
 pub returns-then-output-length : goal.returns-then-output-length
 returns-then-output-length c =
     let here = goal.at.returns-then-output-length c in
-    rw c.refused-then-output-length.ensures
+    rw c.refused_at-then-output-length.ensures
     (stores-none 10 0 _ c.args.output.now
     (too_small (length c.args.output.now) (allowed here.After-as_chunks) _ (answer here.In_ok-length)
     c.if-length-gt-MOST_WORDS.false c.if-output-length.true)

@@ -13,7 +13,7 @@ loop-i-init c = measure_start c.args.words.now c.args.place c.requires
 
 pub returns-in_default : goal.returns-in_default
 returns-in_default c =
-    rw c.refused.ensures (measure_hole c.loop-i.invariant c.loop-i-test.true (has-hole _ c.in_default.ensures))
+    rw c.refused_at.ensures (measure_hole c.loop-i.invariant c.loop-i-test.true (has-hole _ c.in_default.ensures))
 
 -- what the word's commands take
 taken : (c : In-Some) → Extends (get_or c.args.words.now c.loop-i.i 0) c.in-Some.extent
@@ -21,7 +21,7 @@ taken c = extends _ c.in-Some.extent c.in-Some.ensures
 
 pub returns-then-words-next : goal.returns-then-words-next
 returns-then-words-next c =
-    rw c.refused-then-words-next.ensures
+    rw c.refused_at-then-words-next.ensures
     (measure_short c.loop-i.invariant c.loop-i-test.true c.in-Some.extent
     (taken (goal.at.returns-then-words-next c).In-Some) (omega (arith, c.if-words-next.true)))
 

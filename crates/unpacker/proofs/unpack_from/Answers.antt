@@ -10,7 +10,7 @@ pub returns-then-words-gt-MOST_WORDS : goal.returns-then-words-gt-MOST_WORDS
 returns-then-words-gt-MOST_WORDS c =
     stores-none 7 0 _ c.args.output.now
     (too_long c.args.place (length c.args.output.now) c.args.words.now c.if-words-gt-MOST_WORDS.true)
-    (rw c.refused.ensures)
+    (rw c.refused_at.ensures)
 
 pub returns-in_err-length : goal.returns-in_err-length
 returns-in_err-length c =
@@ -30,7 +30,7 @@ returns-then-output-length c =
     let output = c.args.output.now in
     let a = is-accepted (goal.at.returns-then-output-length c).In_ok-length in
     stores-none 10 0 _ output (too_small (length output) a c.if-output-length.true)
-    (rw c.refused-then-output-length.ensures)
+    (rw c.refused_at-then-output-length.ensures)
 
 pub put_list-requires-clause-read : goal.put_list-requires-clause-read
 put_list-requires-clause-read c = (is-accepted (goal.at.put_list-requires-clause-read c).In_ok-length).whole.read
