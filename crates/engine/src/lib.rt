@@ -39,7 +39,7 @@ pub fn word(e: Engine, w: u32, vertices: &mut [i32], polygons: &mut [u32]) -> An
 {
     let mut engine = e;
     let refusal = word_in_place(&mut engine, w, vertices, polygons);
-    answered(refusal, engine)
+    answered(call_number(refusal), engine)
 }
 
 // One port write on the engine where it stands. Refused with 1, 2, 5, 4 or 6, in this order.
@@ -72,7 +72,7 @@ pub fn port_write(
 {
     let mut engine = e;
     let refusal = port_write_in_place(&mut engine, address, value, vertices, polygons);
-    answered(refusal, engine)
+    answered(call_number(refusal), engine)
 }
 
 // The refused item's index, which is how many were taken before it; 0 where none is refused.

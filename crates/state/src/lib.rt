@@ -4,7 +4,6 @@
 
 ghost use Rattle.std.specs.Prelude.{◌≡◌, true, cond, eqb};
 ghost use Rattle.stream.specs.Pending.{packed_pending};
-ghost use Rattle.stream.specs.Refusal.{call_number};
 ghost use Rattle.state.specs.List.{is_list, list_of, number_of};
 ghost use Rattle.state.specs.With.{answered};
 ghost use Rattle.state.specs.Mode.{uses_pair};
@@ -15,7 +14,7 @@ ghost use Rattle.state.specs.Sound.{pending_of, sound_stream, sound};
 
 use commands::{command_bytes, count, has_hole, is_known};
 use matrix::Matrix;
-use stream::{Refusal, call_number};
+use stream::Refusal;
 
 // Position and vector: the current matrices, and the level that their two stacks share.
 #[repr(C)]
@@ -283,10 +282,10 @@ impl Engine {
         let rooms = Counts { vertices, polygons };
         let mut engine = Engine::fresh();
         if !rooms_allowed(rooms) {
-            return answered(Some(Refusal::NoRoom), engine);
+            return answered(Refusal::NoRoom.into(), engine);
         }
         engine.core.registers.geometry.rooms = rooms;
-        answered(None, engine)
+        answered(0, engine)
     }
 
     // Whether the record is sound; the stacks are not looked at.
@@ -299,12 +298,12 @@ impl Engine {
     }
 }
 
-// An answer whose place is 0.
-pub fn answered(refusal: Option<Refusal>, engine: Engine) -> Answer
-    ensures { result ≡ answered (call_number refusal) engine }
+// An answer whose place is 0: 0, or the number that the call refuses with.
+pub fn answered(number: u32, engine: Engine) -> Answer
+    ensures { result ≡ answered number engine }
 {
     Answer {
-        number: call_number(refusal),
+        number,
         place: 0,
         engine,
     }
@@ -318,7 +317,8 @@ pub fn uses_pair(mode: u32) -> bool
 }
 
 impl Transform {
-    fn is_sound(&self) -> bool
+    // Whether the matrices' part of a record is sound.
+    pub fn is_sound(&self) -> bool
         ensures { result ≡ sound_transform self.now }
     {
         (self.mode <= 3)
@@ -410,7 +410,8 @@ impl Waiting {
 }
 
 impl Geometry {
-    fn is_sound(&self) -> bool
+    // Whether the geometry part of a record is sound.
+    pub fn is_sound(&self) -> bool
         ensures { result ≡ sound_geometry self.now }
     {
         (self.colour < COLOURS)
@@ -429,7 +430,8 @@ fn first_of(next: u8, port: u8) -> u8
 }
 
 impl Stream {
-    fn is_sound(&self) -> bool
+    // Whether the command stream of a record is sound.
+    pub fn is_sound(&self) -> bool
         ensures { result ≡ sound_stream self.now }
     {
         let bytes = command_bytes(self.queue);

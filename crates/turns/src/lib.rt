@@ -60,12 +60,15 @@ fn hold_words(words: &[u32], i: usize, many: usize, held: &mut [u32; 32], count:
     requires { (i + many ≤ length words.now) × (count + many ≤ 32) }
     ensures { Held (λ w. w) words.now i held.old count held.new many }
 {
-    // Most commands take one parameter, and a copy of any length is a call.
+    // Most commands take one parameter.
     if many == 1 {
         held[count] = words[i];
         return;
     }
-    held[count..count + many].copy_from_slice(&words[i..i + many]);
+    // Word by word: `copy_from_slice` calls `memmove`, which the library for C would need from outside.
+    for j in 0..many {
+        held[count + j] = words[i + j];
+    }
 }
 
 // A turn on the command at the front of the queue.

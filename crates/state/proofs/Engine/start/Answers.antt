@@ -9,6 +9,7 @@ returns-then-not-rooms_allowed c =
     simp (
       sym c.rooms_allowed.ensures ∙ c.if-not-rooms_allowed.true,
       c.answered.ensures,
+      c.into.ensures,
       c.fresh-engine.ensures,
     )
 
