@@ -7,7 +7,7 @@ use native.Mathlib.Nat.{pow-suc, pow-le-pow_right}
 use native.Mathlib.Omega.{arith}
 use lib.Dec.{ltb}
 use lib.ListN.{length, length-append}
-use borrow.Author.Tests.{lt-ltb, ltb-true, ltb-false}
+use borrow.Author.Tests.{lt-ltb, le-ltb, ltb-true, ltb-false}
 use Rattle.std.specs.Fmt.{decimal as written}
 use Rattle.std.proofs.lemmas.Fmt.{decimal_digit, decimal_step}
 use Rattle.io.specs.Digits.{last_digits, hex_digit_ascii, IsDigitCount}
@@ -55,6 +55,32 @@ decimal-written n h = written_in 9 n (omega arith) (omega arith)
 fewest_large : (b least n k : ℕ) → 0 < b → IsDigitCount b least n k → least < k → (j : ℕ) → j < k → b ^ j ≤ n
 fewest_large b least n k z f h j g =
     omega (arith, f.2 h, pow-le-pow_right {n = b} z {i = j} {j = k - 1} (omega arith))
+
+-- the fewest decimal digits of a number have no leading zero
+fewest_decimal : (k r n : ℕ) → n < 10 ^ suc k → IsDigitCount 10 1 n r → last_digits 10 r n ≡ decimal_in (suc k) n
+fewest_decimal k zero n h f = absurd (omega (arith, f.0))
+fewest_decimal k (suc zero) n h f =
+    let small : n < 10 = omega (arith, f.1) in
+    let same : n % 10 ≡ n = omega arith in
+    rw (same, lt-ltb n 10 small)
+fewest_decimal zero (suc (suc r)) n h f =
+    absurd (omega (arith, fewest_large 10 1 n (suc (suc r)) (omega arith) f (omega arith) 1 (omega arith)))
+fewest_decimal (suc k) (suc (suc r)) n h f =
+    let least = fewest_large 10 1 n (suc (suc r)) (omega arith) f (omega arith) in
+    let large : 10 ≤ n = omega (arith, least 1 (omega arith)) in
+    let one_less : suc r - 1 ≡ r = omega arith in
+    let rest : IsDigitCount 10 1 (n / 10) (suc r) = (
+      omega arith,
+      omega (arith, f.1, pow-suc 10 (suc r)),
+      λ g. rw one_less (omega (arith, least (suc r) (omega arith), pow-suc 10 r)),
+    ) in
+    let few : n / 10 < 10 ^ suc k = omega (arith, pow-suc 10 (suc k)) in
+    rw (le-ltb n 10 large, lt-ltb (n % 10) 10 (omega arith), fewest_decimal k (suc r) (n / 10) few rest)
+
+-- what `io::decimal` makes of a 32-bit number
+pub decimal-digits : (n r : ℕ) → n < 2 ^ 32 → IsDigitCount 10 1 n r → last_digits 10 r n ≡ decimal n
+unfolding decimal
+decimal-digits n r h f = fewest_decimal 9 r n (omega arith) f
 
 -- what `io::hex` makes of a 32-bit number
 pub hex-digits : (n r : ℕ) → n < 2 ^ 32 → IsDigitCount 16 8 n r → last_digits 16 r n ≡ hex8 n

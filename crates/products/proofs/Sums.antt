@@ -152,10 +152,11 @@ module _ (u m l f : ℕ) where
       (ap (λ (n : ℕ). n / 2 ^ 12) (omega arith)
       ∙ add-mul-div_right l (u * 2 ^ 20 + m * 2 ^ 4 + f * (2 ^ 36 - 2 ^ 19)) (lit< tt) ∙ omega arith)
 
-  -- what the code makes of the parts: their sum s, less f * 2 ^ 19
-  pub rounds : (s : ℕ) → s ≡ ((u * 2 ^ 20) % 2 ^ 32 + (m * 2 ^ 4) % 2 ^ 32 + l / 2 ^ 12) % 2 ^ 32
-      → (s + (2 ^ 32 - (f * 2 ^ 19) % 2 ^ 32)) % 2 ^ 32 % 2 ^ 32 ≡ held u m l f / 2 ^ 12 % 2 ^ 32
-  rounds s parts =
+  -- what the code makes of the parts: r, to which f * 2 ^ 19 wraps back
+  pub rounds : (r : ℕ)
+      → (r + (f * 2 ^ 19) % 2 ^ 32) % 2 ^ 32 ≡ ((u * 2 ^ 20) % 2 ^ 32 + (m * 2 ^ 4) % 2 ^ 32 + l / 2 ^ 12) % 2 ^ 32
+      → r % 2 ^ 32 ≡ held u m l f / 2 ^ 12 % 2 ^ 32
+  rounds r e =
       sym (add-mul-mod_self_right r (f * 2 ^ 4) (2 ^ 32))
       ∙ ap (λ (n : ℕ). n % 2 ^ 32) (omega arith)
       ∙ sym (back r (f * 2 ^ 19) g)
@@ -165,13 +166,6 @@ module _ (u m l f : ℕ) where
     where
       g : ℕ
       g = f * (2 ^ 36 - 2 ^ 19)
-
-      r : ℕ
-      r = (s + (2 ^ 32 - (f * 2 ^ 19) % 2 ^ 32)) % 2 ^ 32
-
-      -- f * 2 ^ 19 wraps r back
-      e : (r + (f * 2 ^ 19) % 2 ^ 32) % 2 ^ 32 ≡ ((u * 2 ^ 20) % 2 ^ 32 + (m * 2 ^ 4) % 2 ^ 32 + l / 2 ^ 12) % 2 ^ 32
-      e = omega (arith, parts)
 
       back : (i j k : ℕ) → ((i + j % 2 ^ 32) % 2 ^ 32 + k) % 2 ^ 32 ≡ (i + j + k) % 2 ^ 32
       back i j k = simp (mod-add-mod, add-mod-mod)

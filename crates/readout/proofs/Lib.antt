@@ -1,3 +1,4 @@
 pub mod NumberLaws
 pub mod ChunkLaws
+pub mod RecordLaws
 pub mod ReadoutLaws

@@ -1,14 +1,14 @@
 -- Two texts compared byte by byte, and a room read digit by digit.
-use mathlib.Core.Bool.{Bool, true, false, cond}
+use mathlib.Core.Bool.{Bool, true, false, false≢true, cond, ◌&&◌}
 use mathlib.Core.List.{List, [], ◌∷◌}
 use mathlib.Core.Path.{◌≡◌, refl, sym, ◌∙◌}
 use Prim.Native.Nat.{ℕ, suc, ◌+◌, ◌*◌, ◌-◌, ◌^◌, ◌≤◌, ◌<◌}
-use native.Mathlib.Nat.{pow-suc}
+use native.Mathlib.Nat.{pow-suc, pow-le-pow_right}
 use native.Mathlib.Numerals.{add-one}
 use native.Mathlib.Omega.{arith}
-use lib.Dec.{eqb}
-use lib.ListN.{length, get_or, drop}
-use borrow.Author.Tests.{le-leb, lt-leb}
+use lib.Dec.{eqb, leb}
+use lib.ListN.{length, get_or, drop, drop_of_length-le}
+use borrow.Author.Tests.{leb-true, le-leb, lt-leb}
 use Rattle.std.specs.Char.{is_ascii_digit}
 use Rattle.std.specs.Cmp.Lexicographic.{pointwise}
 use Rattle.words.proofs.Over.{drop-next}
@@ -29,6 +29,17 @@ same-test xs ys e f = sym (rw e at f ∙ same-bytes xs ys)
 pub digit-test : (d : ℕ) {t : Bool} → t ≡ is_ascii_digit d → is_digit d ≡ t
 unfolding is_digit
 digit-test d e = sym e
+
+both_true : (s t : Bool) → (s && t) ≡ true → (s ≡ true) × (t ≡ true)
+both_true true t e = (refl, e)
+both_true false t e = absurd (false≢true e)
+
+-- a digit's byte
+pub digit_bounds : (d : ℕ) → is_digit d ≡ true → (48 ≤ d) × (d ≤ 57)
+unfolding is_digit
+digit_bounds d e =
+    let both = both_true (leb 48 d) (leb d 57) e in
+    (leb-true 48 d both.0, leb-true d 57 both.1)
 
 -- the room that a text gives where the digits read stand for n and the bytes ds are left
 abbrev pub room_from : ℕ → List ℕ → ℕ
@@ -55,6 +66,14 @@ module _ (text : List ℕ) where
   pub room-none : (n i : ℕ) → i < length text → is_digit (get_or text i 0) ≡ false → room_from n (drop i text) ≡ 0
   room-none n i h e = rw (drop-next text i 0 h, e)
 
+  -- behind the last digit
+  pub room-end : (n i : ℕ) → length text ≤ i → room_from n (drop i text) ≡ n
+  room-end n i h = rw (drop_of_length-le text {i = i} h)
+
 -- i digits and one more stand for a number below 10 ^ (i + 1)
 pub room_bound : (n d i : ℕ) → d ≤ 57 → n < 10 ^ i → 10 * n + (d - 48) < 10 ^ (i + 1)
 room_bound n d i h g = rw (add-one i) (omega (arith, pow-suc 10 i))
+
+-- fewer than nine digits
+pub room_small : (n i : ℕ) → i < 9 → n < 10 ^ i → n < 10 ^ 8
+room_small n i h g = omega (arith, pow-le-pow_right {n = 10} (omega arith) {i = i} {j = 8} (omega arith))

@@ -24,6 +24,11 @@ pub text-fits : (form : Form) (words : List ℕ) → length words ≤ longest_ou
 text-fits Log words h = omega (arith, length-words_text words)
 text-fits Packed words h = omega (arith, length-ports_text (writes words), length-writes words)
 
+-- and so does the line of a refusal
+pub line_fits : (form : Form) → 30 ≤ longest_text form
+line_fits Log = omega arith
+line_fits Packed = omega arith
+
 -- What a call on an input that stored n words left in its output buffer, `stored`: the words of its report
 pub record Answered (form : Form) (input : List ℕ) (n : ℕ) (stored : List ℕ) : Type 0 where
   pub report : output_text form (take n stored) ≡ report_of form input

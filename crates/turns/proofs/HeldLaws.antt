@@ -1,6 +1,6 @@
 -- Parameters that are held, one item after the other.
 use mathlib.Core.List.{List, [], ◌∷◌, ◌++◌, map-append, append_assoc}
-use mathlib.Core.Path.{◌≡◌, refl, sym, ap, ◌∙◌}
+use mathlib.Core.Path.{◌≡◌, refl, sym, ap, subst, ◌∙◌}
 use Prim.Native.Nat.{ℕ, ◌+◌, ◌-◌, ◌≤◌, ◌<◌}
 use native.Mathlib.Omega.{arith}
 use lib.ListN.{length, get_or, take, drop, set, length-drop, length-append}
@@ -34,6 +34,10 @@ held_copied {words} {old} {part} {i} {to} {many} is inside room =
     }
 
 module _ {A : Type 0} {item : ℕ → A} {items : List A} {i : ℕ} {old : List ℕ} {to : ℕ} where
+  -- none
+  pub held_none : Held item items i old to old 0
+  held_none = record { values = []; size = refl; items-are = refl; buffer = refl }
+
   -- one more
   pub held_more : {new : List ℕ} {j : ℕ} → Held item items i old to new j → i + j < length items → (d : A) (v : ℕ)
       → get_or items (i + j) d ≡ item v → Held item items i old to (set new (to + j) v) (j + 1)
@@ -53,6 +57,10 @@ module _ {A : Type 0} {item : ℕ → A} {items : List A} {i : ℕ} {old : List 
       record { values = v ∷ []; size = refl; items-are = next_one items i d inside ∙ rw is; buffer = refl }
 
   module _ {new : List ℕ} {many : ℕ} (h : Held item items i old to new many) where
+    -- as many by another name
+    pub held_as : {n : ℕ} → many ≡ n → Held item items i old to new n
+    held_as e = subst (Held item items i old to new) e h
+
     pub same_length : length new ≡ length old
     same_length = ap length h.buffer ∙ length-sets old to h.values
 

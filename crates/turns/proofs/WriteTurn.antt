@@ -1,5 +1,5 @@
 -- What a turn over port writes gives, case by case.
-use mathlib.Core.Bool.{Bool, true, false, ◌||◌}
+use mathlib.Core.Bool.{Bool, true, false, not, ◌&&◌, ◌||◌}
 use mathlib.Core.List.{List, [], ◌∷◌, ◌++◌}
 use mathlib.Core.Path.{◌≡◌, refl, sym, ap, subst, ◌∙◌}
 use Prim.Native.Nat.{ℕ, zero, suc, ◌+◌, ◌*◌, ◌/◌, ◌%◌, ◌^◌, ◌≤◌, ◌<◌}
@@ -24,7 +24,9 @@ use Rattle.stream.proofs.StepLaws.{length-snoc}
 use Rattle.stream.proofs.UnpackLaws.{length-writes}
 use Rattle.stream.proofs.WriteLaws.{writes_at}
 use Rattle.turns.specs.declared.Begun.{Begun}
+use Rattle.turns.specs.declared.Outcome.{Outcome}
 use Rattle.turns.specs.declared.Outcome.TheVariants.{Runs, GoesOn, Ends}
+use Rattle.turns.specs.declared.Turn.{Turn}
 use Rattle.turns.specs.Inside.{due_of, pending_due, is_packed, Fit, Writable, pair_at}
 use Rattle.turns.specs.Inside.{Held, AllTaken, no_item, one-item, Turned}
 use Rattle.turns.proofs.HeldLaws.{same_length, next_one}
@@ -60,7 +62,23 @@ module _ (b : Begun) (free : is_packed b ≡ false) where
   unfolding is_packed
   no_dummy = (unpacked (known (b.queue % 256)) b.dummy free).1
 
+-- whether a packed word is pending after a turn is read from these two
+pub same-packed : {r : Turn} {next : ℕ} {n : Begun} {outcome : Outcome} → r ≡ turn next n outcome
+    → (r.begun.queue ≡ n.queue) × (r.begun.dummy ≡ n.dummy)
+same-packed is = (ap (λ (r : Turn). r.begun.queue) is, ap (λ (r : Turn). r.begun.dummy) is)
+
 -- ---- refusals
+
+-- what a test by two negations says
+pub neither : (x y : Bool) → (not x && not y) ≡ true → (x || y) ≡ false
+neither true y e = never e
+neither false true e = never e
+neither false false e = refl
+
+pub either : (x y : Bool) → (not x && not y) ≡ false → (x || y) ≡ true
+either true y e = refl
+either false true e = refl
+either false false e = never (sym e)
 
 module _ (b : Begun) (log old : List ℕ) (i : ℕ) (f : Fit b) (due : due_of b ≡ []) where
   pub write_ended : i ≤ length log / 2 → length log / 2 ≤ i

@@ -10,6 +10,7 @@ use lib.ListN.{length, take, drop, length-drop}
 use lib.Seq.{length-take-le}
 use Rattle.commands.specs.Commands.{known, count, port, command_bytes, hole}
 use Rattle.commands.proofs.Table.{count_small}
+use Rattle.commands.proofs.Commands.{counted-unknown}
 use Rattle.std.specs.Prelude.{Some, None}
 use Rattle.std.specs.Int.{to_le_bytes}
 use Rattle.stream.specs.Pending.{commands_of}
@@ -17,6 +18,7 @@ use Rattle.stream.specs.Command.{takes_none, command}
 use Rattle.stream.specs.Pack.{count_if}
 use Rattle.stream.specs.Unpack.{writes_for, commands_log}
 use Rattle.stream.proofs.CommandLaws.{takes_some_count, none-by-count}
+use Rattle.stream.proofs.PendingLaws.{unknown-zero}
 use Rattle.stream.proofs.StepLaws.{commands-few}
 use Rattle.stream.proofs.PackLaws.{one-most}
 use Rattle.stream.proofs.UnpackLaws.{length-commands_log, command_log, length_writes_log}
@@ -180,3 +182,9 @@ has-hole w e = by (hole (command_bytes w)) refl
     by : (t : Bool) → hole (command_bytes w) ≡ t → t ≡ true
     by true h = refl
     by false h = let z = rw h at e in absurd (cc)
+
+-- ---- a word of 0
+
+pub zero_no_hole : hole (command_bytes 0) ≡ false
+unfolding command_bytes hole
+zero_no_hole = rw (counted-unknown 0 unknown-zero)
