@@ -1,13 +1,9 @@
 -- Parameters that are held, one item after the other.
-use mathlib.Core.List.{List, [], ◌∷◌, ◌++◌, map-append, append_assoc}
+use mathlib.Core.List.{List, [], ◌∷◌, ◌++◌, map-append}
 use mathlib.Core.Path.{◌≡◌, refl, sym, ap, subst, ◌∙◌}
-use Prim.Native.Nat.{ℕ, ◌+◌, ◌-◌, ◌≤◌, ◌<◌}
+use Prim.Native.Nat.{ℕ, ◌+◌, ◌≤◌, ◌<◌}
 use native.Mathlib.Omega.{arith}
 use lib.ListN.{length, get_or, take, drop, set, length-drop, length-append}
-use Rattle.std.specs.Prelude.{slice_range}
-use Rattle.std.proofs.lemmas.List.{map-id, drop-drop}
-use Rattle.std.proofs.lemmas.List.Edits.{length-between}
-use borrow.Rule.Slice.PartMut.{put_mid}
 use lib.Seq.{sets-eq, length-sets, length-take-le, get_or-drop, take-append_seam}
 use Rattle.words.proofs.Over.{sets-append, take_next, drop-next}
 use Rattle.stream.proofs.StepLaws.{length-snoc}
@@ -16,22 +12,6 @@ use Rattle.turns.specs.Inside.{Held}
 pub next_one : {A : Type 0} (items : List A) (i : ℕ) (d : A) → i < length items
     → take 1 (drop i items) ≡ get_or items i d ∷ []
 next_one items i d inside = ap (take 1) (drop-next items i d inside)
-
--- words as they are, copied at once
-pub held_copied : {words old part : List ℕ} {i to many : ℕ} → part ≡ slice_range words i (i + many)
-    → i + many ≤ length words → to + many ≤ length old
-    → Held (λ w. w) words i old to (put_mid to (to + many - to) old part) many
-held_copied {words} {old} {part} {i} {to} {many} is inside room =
-    let copied : i + many - i ≡ many = omega arith in
-    let replaced : to + many - to ≡ many = omega arith in
-    let from : part ≡ take many (drop i words) = rw copied at is in
-    let size : length part ≡ many = ap length is ∙ length-between words i (i + many) inside ∙ copied in record {
-      values = part;
-      size = size;
-      items-are = sym from ∙ sym (map-id part);
-      buffer = rw (replaced, sets-eq part old to (omega (arith, size, room)), size, drop-drop many to old)
-          (sym (append_assoc (take to old) part (drop (to + many) old)));
-    }
 
 module _ {A : Type 0} {item : ℕ → A} {items : List A} {i : ℕ} {old : List ℕ} {to : ℕ} where
   -- none

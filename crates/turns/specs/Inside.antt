@@ -1,6 +1,5 @@
 -- Inner: what a turn promises to the feed. No contract of a call cites it, and a reader need not believe it.
 use Rattle.std.specs.Prelude.{Bool, true, false, cond, ◌||◌, List, [], ◌∷◌, ◌++◌, map, ◌≡◌, ℕ, ◌+◌, ◌-◌, ◌*◌, ◌/◌, ◌%◌, ◌^◌, ◌≤◌, ◌<◌, eqb, length, get_or, take, drop}
-use Rattle.std.specs.Prelude.{Some, None}
 use Rattle.std.proofs.lemmas.List.Edits.{sets}
 use Rattle.commands.specs.Commands.{known, count, command_at, command_bytes, hole}
 use Rattle.stream.specs.declared.Form.{Form}
