@@ -32,11 +32,13 @@ module _ (c : Core) (vs : List ℤ) (ps p : List ℕ) where
   abbrev with_part : Geometry → Core
   with_part g = with_registers c (with_geometry c.registers g)
 
+  -- a stack command
   pub ran_stack : (k : StackCommand) (n : Matrices) → n ≡ run_stack k (get_or p 0 0) (matrices_of c)
       → buffered (with_matrices c n) vs ps ≡ run_operation (Stack k) p all
   unfolding run_operation
   ran_stack k n e = ap (λ (n : Matrices). buffered (with_matrices c n) vs ps) e
 
+  -- a matrix command
   pub ran_matrix : (k : MatrixCommand) (t : Transform) → t ≡ run_matrix k p c.registers.transform
       → buffered (with_registers c (with_transform c.registers t)) vs ps ≡ run_operation (Register (Matrix k)) p all
   unfolding run_operation run_registers

@@ -49,7 +49,8 @@ pub one_more : (m : List ℤ) (r : List ℕ) (i v : ℕ) → take i m ≡ map nu
     → i < length r → i < length m → take (i + 1) m ≡ map number (take (i + 1) (set r i v))
 one_more m r i v e ev hr hm =
     rw (add-one i)
-    (take-suc m i (pos 0) hm ∙ mapped_more number (take i m) (take i r) (at m i) v e (sym ev) ∙ sym (ap (map number) (take-suc-set r i v hr)))
+    (take-suc m i (pos 0) hm ∙ mapped_more number (take i m) (take i r) (at m i) v e (sym ev)
+    ∙ sym (ap (map number) (take-suc-set r i v hr)))
 
 -- where the numbers of p stand for P's, and those of c for A's: a row of three numbers of p by a column of c
 pub three_of : {P p A c : List ℤ} → P ≡ p → A ≡ c → (i j : ℕ)
@@ -58,7 +59,8 @@ pub three_of : {P p A c : List ℤ} → P ≡ p → A ≡ c → (i j : ℕ)
 three_of e f i j = λ t. column (at (e t) (3 * i)) (at (e t) (3 * i + 1)) (at (e t) (3 * i + 2)) (pos 0) (f t) j
 
 -- and the row (x, y, z, 1.0), whose last number is read from its bits
-pub moved_by_lem : {X x Y y Z z : ℤ} {A c : List ℤ} → X ≡ x → Y ≡ y → Z ≡ z → A ≡ c → (j : ℕ) → mag (at c (12 + j)) < 2 ^ 31
+pub moved_by_lem : {X x Y y Z z : ℤ} {A c : List ℤ} → X ≡ x → Y ≡ y → Z ≡ z → A ≡ c → (j : ℕ)
+    → mag (at c (12 + j)) < 2 ^ 31
     → entry X Y Z one (at A j) (at A (4 + j)) (at A (8 + j)) (to_z w32 (of_z w32 (at c (12 + j)))) ≡ column x y z one c j
 moved_by_lem {c = c} e f g h j l =
     λ t. entry (e t) (f t) (g t) one (at (h t) j) (at (h t) (4 + j)) (at (h t) (8 + j)) (again w32 (at c (12 + j)) l t)

@@ -1,6 +1,6 @@
 -- Groups of k elements of a list: the records of a buffer, and their lines.
 use mathlib.Core.List.{List, ◌∷◌, ◌++◌, append_assoc, append-nil}
-use mathlib.Core.Path.{◌≡◌, refl, ap}
+use mathlib.Core.Path.{◌≡◌, refl, ap, subst}
 use Prim.Native.Nat.{ℕ, zero, suc, ◌+◌, ◌-◌, ◌*◌, ◌/◌, ◌≤◌, ◌<◌}
 use native.Mathlib.Nat.{mul-suc, mul-zero}
 use native.Mathlib.Omega.{arith}
@@ -22,13 +22,15 @@ module _ {A : Type 0} (k : ℕ) where
       → take n (first_chunks k (length l / k) l) ≡ chunks k n l
   first-are n l z h = fewer n (length l / k) l (le-div n (length l) k z (omega arith))
 
--- the numbers of a vertex behind its first
-pub rest-are : {A : Type 0} (v : List A) → length v ≡ 5 → take 4 (drop 1 v) ≡ drop 1 v
-rest-are v h = take_all 4 (drop 1 v) (omega (arith, length-drop 1 v))
-
--- the elements of any list behind its first
+-- the elements of a list behind its first
 pub rest_of : {A : Type 0} (l : List A) → take (length l - 1) (drop 1 l) ≡ drop 1 l
 rest_of l = take_all (length l - 1) (drop 1 l) (omega (arith, length-drop 1 l))
+
+-- the numbers of a vertex behind its first
+pub rest-are : {A : Type 0} (v : List A) → length v ≡ 5 → take 4 (drop 1 v) ≡ drop 1 v
+rest-are v h =
+    let four : length v - 1 ≡ 4 = omega (arith, h) in
+    subst (λ (n : ℕ). take n (drop 1 v) ≡ drop 1 v) four (rest_of v)
 
 -- group i, by where it begins and ends
 module _ {A : Type 0} (k i : ℕ) (l : List A) where

@@ -12,7 +12,8 @@ use Rattle.polygons.specs.Buffers.{with_vertex, with_vertices}
 use Rattle.readout.specs.Numbers.{chunks}
 
 -- three of them
-pub three-are : (a b c old : List ℤ) → length a ≡ vertex_width → length b ≡ vertex_width → length c ≡ vertex_width → length old ≡ 3 * vertex_width
+pub three-are : (a b c old : List ℤ) → length a ≡ vertex_width → length b ≡ vertex_width → length c ≡ vertex_width
+    → length old ≡ 3 * vertex_width
     → chunks vertex_width 3 (with_vertices old 0 (a ∷ b ∷ c ∷ [])) ≡ a ∷ b ∷ c ∷ []
 unfolding with_vertex
 three-are a b c old la lb lc h =
@@ -23,4 +24,10 @@ three-are a b c old la lb lc h =
     let laid = sym all ∙ sets_over old (a ++ b ++ c) (omega arith) ∙ over-all (a ++ b ++ c) old (three ∙ sym h) in
     let last : take vertex_width c ≡ c = take_all vertex_width c (omega arith) in
     ap (chunks vertex_width 3) (laid ∙ append_assoc a b c)
-    ∙ rw (take_at a (b ++ c) vertex_width la, drop_at a (b ++ c) vertex_width la, take_at b c vertex_width lb, drop_at b c vertex_width lb, last)
+    ∙ rw (
+      take_at a (b ++ c) vertex_width la,
+      drop_at a (b ++ c) vertex_width la,
+      take_at b c vertex_width lb,
+      drop_at b c vertex_width lb,
+      last,
+    )

@@ -1,5 +1,5 @@
 -- Two texts compared byte by byte, and a room read digit by digit.
-use mathlib.Core.Bool.{Bool, true, false, false≢true, cond, ◌&&◌}
+use mathlib.Core.Bool.{Bool, true, false, cond, and-eq-true_iff}
 use mathlib.Core.List.{List, [], ◌∷◌}
 use mathlib.Core.Path.{◌≡◌, refl, sym, ◌∙◌}
 use Prim.Native.Nat.{ℕ, suc, ◌+◌, ◌*◌, ◌-◌, ◌^◌, ◌≤◌, ◌<◌}
@@ -30,15 +30,11 @@ pub digit-test : (d : ℕ) {t : Bool} → t ≡ is_ascii_digit d → is_digit d 
 unfolding is_digit
 digit-test d e = sym e
 
-both_true : (s t : Bool) → (s && t) ≡ true → (s ≡ true) × (t ≡ true)
-both_true true t e = (refl, e)
-both_true false t e = absurd (false≢true e)
-
 -- a digit's byte
 pub digit_bounds : (d : ℕ) → is_digit d ≡ true → (48 ≤ d) × (d ≤ 57)
 unfolding is_digit
 digit_bounds d e =
-    let both = both_true (leb 48 d) (leb d 57) e in
+    let both = (and-eq-true_iff (leb 48 d) (leb d 57)).0 e in
     (leb-true 48 d both.0, leb-true d 57 both.1)
 
 -- the room that a text gives where the digits read stand for n and the bytes ds are left
